@@ -1,0 +1,3 @@
+-- What the operations answer: the number of each refusal, and the outcomes.
+pub mod Numbers
+pub mod Outcome
