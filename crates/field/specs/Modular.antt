@@ -6,12 +6,12 @@ unfoldable pub residue : ℕ → ℕ → ℕ
 residue zero x = 0
 residue (suc m) x = x % suc m
 
-unfoldable pub addMod : ℕ → ℕ → ℕ → ℕ
+abbrev pub addMod : ℕ → ℕ → ℕ → ℕ
 addMod p a b = residue p (a + b)
 
 -- a - b: what is added to b to give a
-unfoldable pub subMod : ℕ → ℕ → ℕ → ℕ
+abbrev pub subMod : ℕ → ℕ → ℕ → ℕ
 subMod p a b = residue p (a + (p - residue p b))
 
-unfoldable pub mulMod : ℕ → ℕ → ℕ → ℕ
+abbrev pub mulMod : ℕ → ℕ → ℕ → ℕ
 mulMod p a b = residue p (a * b)

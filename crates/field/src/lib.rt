@@ -3,6 +3,8 @@ ghost use mathlib.Core.Path.{_≡_};
 ghost use Prim.Native.Nat.{_<_};
 ghost use lib.ListN.{getD};
 ghost use Rattle.field.specs.Primes.{primes, listed};
+ghost use Rattle.field.specs.Modular.{residue, addMod, subMod, mulMod};
+ghost use Rattle.field.specs.Logarithm.{flog, clog};
 
 // The odd primes from 3 to 251, ascending.
 const PRIMES: [u8; 53] = [
@@ -81,4 +83,64 @@ pub fn is_listed(p: u8) -> bool
         place += 1;
     }
     false
+}
+
+// x modulo p, and 0 where p is 0.
+fn remainder(x: u16, p: u8) -> u8
+    ensures { λ r. ⌜ r ≡ residue p x ⌝ }
+{
+    if p == 0 {
+        return 0;
+    }
+    (x % (p as u16)) as u8
+}
+
+// a + b modulo p.
+pub fn add_mod(a: u8, b: u8, p: u8) -> u8
+    ensures { λ r. ⌜ r ≡ addMod p a b ⌝ }
+{
+    remainder((a as u16) + (b as u16), p)
+}
+
+// a - b modulo p: minus b is b times p - 1.
+pub fn sub_mod(a: u8, b: u8, p: u8) -> u8
+    ensures { λ r. ⌜ r ≡ subMod p a b ⌝ }
+{
+    if p == 0 {
+        return 0;
+    }
+    remainder((a as u16) + ((p - 1) as u16) * (b as u16), p)
+}
+
+// a times b modulo p.
+pub fn mul_mod(a: u8, b: u8, p: u8) -> u8
+    ensures { λ r. ⌜ r ≡ mulMod p a b ⌝ }
+{
+    remainder((a as u16) * (b as u16), p)
+}
+
+// The floor of log2 n, 0 at 0.
+pub fn floor_log2(n: u16) -> u16
+    ensures { λ r. ⌜ r ≡ flog n ⌝ }
+{
+    let mut rest = n;
+    let mut halvings = 0;
+    while 1 < rest {
+        rest = rest / 2;
+        halvings += 1;
+    }
+    halvings
+}
+
+// The ceiling of log2 n, 0 at 0.
+pub fn ceil_log2(n: u16) -> u16
+    ensures { λ r. ⌜ r ≡ clog n ⌝ }
+{
+    let mut rest = n;
+    let mut halvings = 0;
+    while 1 < rest {
+        rest = rest / 2 + rest % 2;
+        halvings += 1;
+    }
+    halvings
 }

@@ -1,0 +1,88 @@
+-- flog and clog are the floor and the ceiling of log2: 2 ^ d ≤ n exactly where d ≤ flog n, for n above 0, and n ≤ 2 ^ d exactly where clog n ≤ d.
+-- Each law says the logarithm whole, so that whatever has the law is the logarithm; the steps by halves follow.
+-- Assumes nothing.
+use mathlib.Core.Path.{_≡_, refl, sym, ap, _∙_}
+use mathlib.Core.Logic.{_↔_}
+use mathlib.Core.Bool.{Bool, true, false, not}
+use Prim.Native.Nat.{ℕ, zero, suc, _+_, _/_, _^_, _≤_, _<_, zero-le}
+use native.Mathlib.Omega.{arith}
+use native.Mathlib.Nat.{le-antisymm, le-trans, le-refl}
+use lib.Dec.{T, leb, leb→le, nleb→lt}
+use lib.Pow.{pow-pos}
+use Rattle.field.specs.Logarithm.{flogIn, flog, clogIn, clog}
+
+le-pow-self : (n : ℕ) → n ≤ 2 ^ n
+le-pow-self zero = zero-le
+le-pow-self (suc n) = omega (arith, le-pow-self n, pow-pos n)
+
+-- ---- the ceiling
+
+-- one halving, from the law of the half; b is the test that n is at most 1
+clog-step : (n c : ℕ) → ((d : ℕ) → ((n + 1) / 2 ≤ 2 ^ d) ↔ (c ≤ d)) → (b : Bool) → (T b → n ≤ 1) → (T (not b) → 1 < n)
+    → (d : ℕ) → (n ≤ 2 ^ d) ↔ ((elim b as (λ _. ℕ) [ true ↦ 0 | false ↦ suc c ]) ≤ d)
+clog-step n c half true small large d = (λ k. zero-le, λ k. omega (arith, pow-pos d, small tt))
+clog-step n c half false small large zero = (λ k. omega (arith, large tt), λ k. omega arith)
+clog-step n c half false small large (suc d) =
+    (λ k. omega (arith, half d .0 (omega arith)), λ k. omega (arith, half d .1 (omega arith)))
+
+clogIn-iff : (most n d : ℕ) → n ≤ 2 ^ most → (n ≤ 2 ^ d) ↔ (clogIn most n ≤ d)
+unfolding clogIn
+clogIn-iff zero n d h = (λ k. zero-le, λ k. omega (arith, pow-pos d))
+clogIn-iff (suc most) n d h =
+    clog-step n (clogIn most ((n + 1) / 2)) (λ e. clogIn-iff most ((n + 1) / 2) e (omega arith)) (leb n 1) (leb→le n 1) (nleb→lt n 1) d
+
+pub clog-iff : (n d : ℕ) → (n ≤ 2 ^ d) ↔ (clog n ≤ d)
+unfolding clog
+clog-iff n d = clogIn-iff n n d (le-pow-self n)
+
+-- whatever has the law is clog
+pub clog-unique : (n c : ℕ) → ((d : ℕ) → (n ≤ 2 ^ d) ↔ (c ≤ d)) → c ≡ clog n
+clog-unique n c law =
+    le-antisymm (law (clog n) .0 (clog-iff n (clog n) .1 (le-refl _))) (clog-iff n c .0 (law c .1 (le-refl _)))
+
+pub clog-small : (n : ℕ) → n ≤ 1 → clog n ≡ 0
+clog-small n h = omega (arith, clog-iff n 0 .0 (omega arith))
+
+pub clog-half : (n : ℕ) → 2 ≤ n → clog n ≡ suc (clog ((n + 1) / 2))
+clog-half n h =
+    sym (clog-unique n _ (λ d. clog-step n (clog ((n + 1) / 2)) (clog-iff ((n + 1) / 2)) false (λ t. absurd t) (λ t. h) d))
+
+pub clog-mono : {m n : ℕ} → m ≤ n → clog m ≤ clog n
+clog-mono {m} {n} h = clog-iff m (clog n) .0 (le-trans h (clog-iff n (clog n) .1 (le-refl _)))
+
+-- ---- the floor
+
+-- one halving, from the law of the half; b is the test that n is at most 1
+flog-step : (n f : ℕ) → 0 < n → (1 < n → (d : ℕ) → (2 ^ d ≤ n / 2) ↔ (d ≤ f)) → (b : Bool) → (T b → n ≤ 1) → (T (not b) → 1 < n)
+    → (d : ℕ) → (2 ^ d ≤ n) ↔ (d ≤ (elim b as (λ _. ℕ) [ true ↦ 0 | false ↦ suc f ]))
+flog-step n f p half b small large zero = (λ k. zero-le, λ k. omega arith)
+flog-step n f p half true small large (suc d) = (λ k. omega (arith, pow-pos d, small tt), λ k. omega arith)
+flog-step n f p half false small large (suc d) =
+    (λ k. omega (arith, half (large tt) d .0 (omega arith)), λ k. omega (arith, half (large tt) d .1 (omega arith)))
+
+flogIn-iff : (most n d : ℕ) → 0 < n → n < 2 ^ suc most → (2 ^ d ≤ n) ↔ (d ≤ flogIn most n)
+unfolding flogIn
+flogIn-iff zero n zero p h = (λ k. zero-le, λ k. omega arith)
+flogIn-iff zero n (suc d) p h = (λ k. omega (arith, pow-pos d), λ k. omega arith)
+flogIn-iff (suc most) n d p h =
+    flog-step n (flogIn most (n / 2)) p (λ l e. flogIn-iff most (n / 2) e (omega arith) (omega arith)) (leb n 1) (leb→le n 1) (nleb→lt n 1) d
+
+pub flog-iff : (n d : ℕ) → 0 < n → (2 ^ d ≤ n) ↔ (d ≤ flog n)
+unfolding flog
+flog-iff n d p = flogIn-iff n n d p (omega (arith, le-pow-self n, pow-pos n))
+
+-- whatever has the law is flog
+pub flog-unique : (n f : ℕ) → 0 < n → ((d : ℕ) → (2 ^ d ≤ n) ↔ (d ≤ f)) → f ≡ flog n
+flog-unique n f p law =
+    le-antisymm (flog-iff n f p .0 (law f .1 (le-refl _))) (law (flog n) .0 (flog-iff n (flog n) p .1 (le-refl _)))
+
+pub flog-small : (n : ℕ) → n ≤ 1 → flog n ≡ 0
+unfolding flog flogIn
+flog-small zero h = refl
+flog-small (suc zero) h = refl
+flog-small (suc (suc n)) h = absurd (omega arith)
+
+pub flog-half : (n : ℕ) → 2 ≤ n → flog n ≡ suc (flog (n / 2))
+flog-half n h =
+    sym (flog-unique n _ (omega arith) (λ d.
+    flog-step n (flog (n / 2)) (omega arith) (λ l e. flog-iff (n / 2) e (omega arith)) false (λ t. absurd t) (λ t. h) d))

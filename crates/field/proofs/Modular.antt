@@ -1,0 +1,76 @@
+-- Laws of arithmetic modulo p, for any p, or any p above 0: congruence is equality of remainders, and minus x is p - 1 times x,
+-- so that every identity is one of sums and products. `mod-of` turns an equation up to multiples of p into a congruence, and `strip` takes inner remainders away.
+-- Assumes nothing.
+use mathlib.Core.Path.{_≡_, refl, sym, ap, ap₂, _∙_}
+use Prim.Native.Nat.{ℕ, zero, suc, _+_, _-_, _*_, _/_, _%_, _^_, _≤_, _<_}
+use native.Mathlib.Omega.{arith}
+use native.Mathlib.Nat.{add-mul-mod-self-right, mod-add-div', mod-mod, mod-add-mod, add-mod-mod, mod-lt, zero-mod, le-of-lt, add-zero, add-assoc, mul-comm, pow-zero, pow-suc}
+use native.Mathlib.Numerals.{sub-one}
+use Rattle.field.specs.Modular.{residue, addMod, subMod, mulMod}
+
+-- ---- congruence
+
+-- equal up to multiples of p
+pub mod-of : (p k l x y : ℕ) → x + k * p ≡ y + l * p → x % p ≡ y % p
+mod-of p k l x y e =
+    sym (add-mul-mod-self-right x k p) ∙ ap (λ (n : ℕ). n % p) e ∙ add-mul-mod-self-right y l p
+
+-- what leaves no remainder is a multiple
+pub multiple : (p x : ℕ) → x % p ≡ 0 → x ≡ x / p * p
+multiple p x h = omega (arith, mod-add-div' x p)
+
+pub mod-mul : (a b p : ℕ) → (a % p * b) % p ≡ (a * b) % p
+mod-mul a b p = mod-of p (a / p * b) 0 _ _ (omega (arith, ap (λ (n : ℕ). n * b) (mod-add-div' a p)))
+
+pub mul-mod : (a b p : ℕ) → (a * (b % p)) % p ≡ (a * b) % p
+mul-mod a b p = ap (λ (n : ℕ). n % p) (mul-comm a (b % p)) ∙ mod-mul b a p ∙ ap (λ (n : ℕ). n % p) (mul-comm b a)
+
+-- inner remainders go
+pub ruleset strip = (mod-mod, mod-add-mod, add-mod-mod, mod-mul, mul-mod)
+
+pub add-cong : (p a b c d : ℕ) → a % p ≡ b % p → c % p ≡ d % p → (a + c) % p ≡ (b + d) % p
+add-cong p a b c d h k = sym (simp strip) ∙ ap₂ (λ (x y : ℕ). (x + y) % p) h k ∙ simp strip
+
+pub mul-cong : (p a b c d : ℕ) → a % p ≡ b % p → c % p ≡ d % p → (a * c) % p ≡ (b * d) % p
+mul-cong p a b c d h k = sym (simp strip) ∙ ap₂ (λ (x y : ℕ). (x * y) % p) h k ∙ simp strip
+
+pub pow-cong : (p a b n : ℕ) → a % p ≡ b % p → (a ^ n) % p ≡ (b ^ n) % p
+pow-cong p a b zero h = simp pow-zero
+pow-cong p a b (suc n) h = simp pow-suc (mul-cong p (a ^ n) (b ^ n) a b (pow-cong p a b n h) h)
+
+-- ---- minus x is p - 1 times x
+
+pub minus-add : (p x : ℕ) → 0 < p → ((p - 1) * x + x) % p ≡ 0
+minus-add (suc m) x h = simp (sub-one) (mod-of (suc m) 0 x _ 0 (omega arith) ∙ zero-mod (suc m))
+
+pub minus-minus : (p x : ℕ) → 0 < p → ((p - 1) * ((p - 1) * x)) % p ≡ x % p
+minus-minus (suc m) x h = simp (sub-one) (mod-of (suc m) x (m * x) _ _ (omega arith))
+
+pub minus-product : (p a b : ℕ) → b ≤ p → 0 < p → (a + (p - b)) % p ≡ (a + (p - 1) * b) % p
+minus-product (suc m) a b l h = simp (sub-one) (mod-of (suc m) b 1 _ _ (omega arith))
+
+-- ---- the operations
+
+pub residue-is : (p x : ℕ) → 0 < p → residue p x ≡ x % p
+unfolding residue
+residue-is (suc m) x h = refl
+
+pub residue-below : (p x : ℕ) → 0 < p → residue p x < p
+residue-below p x h = rw (residue-is p x h) (mod-lt x h)
+
+pub addMod-is : (p a b : ℕ) → 0 < p → addMod p a b ≡ (a + b) % p
+addMod-is p a b h = residue-is p (a + b) h
+
+pub mulMod-is : (p a b : ℕ) → 0 < p → mulMod p a b ≡ (a * b) % p
+mulMod-is p a b h = residue-is p (a * b) h
+
+pub subMod-is : (p a b : ℕ) → 0 < p → subMod p a b ≡ (a + (p - 1) * b) % p
+subMod-is p a b h =
+    residue-is p _ h ∙ simp (residue-is p b h)
+    (minus-product p a (b % p) (le-of-lt (mod-lt b h)) h ∙ add-cong p a a _ _ refl (mul-mod (p - 1) b p))
+
+-- subMod is subtraction: what it gives, added to b, is a
+pub sub-add : (p a b : ℕ) → 0 < p → (subMod p a b + b) % p ≡ a % p
+sub-add p a b h =
+    rw (subMod-is p a b h) (mod-add-mod _ p b ∙ ap (λ (n : ℕ). n % p) (add-assoc a _ b)
+    ∙ add-cong p a a _ 0 refl (minus-add p b h ∙ sym (zero-mod p)) ∙ simp add-zero)

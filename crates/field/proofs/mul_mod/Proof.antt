@@ -1,0 +1,21 @@
+-- `field::mul_mod` meets its contract: the product of two bytes fits 16 bits.
+-- Assumes nothing.
+use native.Mathlib.Omega.{arith}
+use native.Mathlib.Nat.{mul-le-mul}
+use Prim.Native.Nat.{ℕ, _*_, _≤_}
+use borrow.Author.Needs.{needs}
+use Rattle.field.proofs.mul_mod.Statement.{statement}
+use Rattle.field.proofs.mul_mod.Tie as tie
+
+mul-remainder : tie.Need-mul-remainder
+mul-remainder c =
+    let product : c .args .a * c .args .b ≤ 255 * 255 = mul-le-mul {n₂ = 255} {m₂ = 255} (omega arith) (omega arith) in omega arith
+
+remainder-requires : tie.Need-remainder-requires
+remainder-requires c κs = search needs
+
+returns : tie.Need-returns
+returns c = search needs
+
+pub mul-mod-spec : {M : Type 1} → statement M
+mul-mod-spec = tie.close (tie.spec mul-remainder remainder-requires returns)
