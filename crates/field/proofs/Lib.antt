@@ -1,4 +1,6 @@
 -- Laws that other crates cite.
+pub mod Flag
 pub mod Primes
 pub mod Modular
+pub mod Sum
 pub mod Logarithm

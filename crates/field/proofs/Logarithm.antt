@@ -1,7 +1,7 @@
 -- flog and clog are the floor and the ceiling of log2: 2 ^ d ≤ n exactly where d ≤ flog n, for n above 0, and n ≤ 2 ^ d exactly where clog n ≤ d.
 -- Each law says the logarithm whole, so that whatever has the law is the logarithm; the steps by halves follow.
 -- Assumes nothing.
-use mathlib.Core.Path.{_≡_, refl, sym, ap, _∙_}
+use mathlib.Core.Path.{_≡_, refl, sym}
 use mathlib.Core.Logic.{_↔_}
 use mathlib.Core.Bool.{Bool, true, false, not}
 use Prim.Native.Nat.{ℕ, zero, suc, _+_, _/_, _^_, _≤_, _<_, zero-le}

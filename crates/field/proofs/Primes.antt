@@ -2,9 +2,9 @@
 -- The list is made by trial division, so the rule holds of every list so made, by induction on the numbers tried.
 -- That the code's array is this very list is one computed test, in `proofs/prime_at`.
 -- Assumes nothing.
-use mathlib.Core.Path.{_≡_, refl, sym, ap, subst, _∙_}
-use mathlib.Core.Bool.{Bool, true, false, not, _&&_, _||_, false≢true, or-true}
-use mathlib.Core.List.{List, [], _∷_}
+use mathlib.Core.Path.{_≡_, refl, subst}
+use mathlib.Core.Bool.{Bool, true, false, not, _||_, false≢true, or-true}
+use mathlib.Core.List.{List, _∷_}
 use mathlib.Core.Logic.{_≢_, _↔_, _⊎_, inl, inr, ⊎-elim}
 use Prim.Native.Nat.{ℕ, zero, suc, _+_, _-_, _%_, _≤_, _<_}
 use native.Mathlib.Omega.{arith}
@@ -13,13 +13,10 @@ use borrow.Author.Tests.{eqb-true, eqb-false, eq-eqb, ne-eqb, not-true}
 use lib.Dec.{eqb}
 use lib.ListN.{length, drop, getD}
 use lib.Seq.{drop-cons}
+use Rattle.field.proofs.Flag.{both}
 use Rattle.field.specs.Primes.{Prime, OddPrime, noDivisor, keep, primesFrom, primes, member, listed}
 
 -- ---- trial division
-
-both : (a b : Bool) → (a && b) ≡ true → (a ≡ true) × (b ≡ true)
-both true b t = (refl, t)
-both false b t = absurd (false≢true t)
 
 -- e does not divide p: it is d, or one of the later
 undivided-at : (p d e : ℕ) → Dec (d ≡ e) → p % d ≢ 0 → (suc d ≤ e → p % e ≢ 0) → d ≤ e → p % e ≢ 0

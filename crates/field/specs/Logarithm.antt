@@ -1,6 +1,6 @@
 -- Logarithms to base 2 (document 01, "Field and digits"): "flog" is floor(log2); clog is ceil(log2). Both are 0 at 0.
 use Prim.Native.Nat.{ℕ, zero, suc, _+_, _/_}
-use mathlib.Core.Bool.{Bool, true, false}
+use mathlib.Core.Bool.{true, false}
 use lib.Dec.{leb}
 
 -- how often n can be halved, rounding down, before it is at most 1; the first argument bounds the count

@@ -1,0 +1,5 @@
+-- Laws that other crates cite.
+pub mod Number
+pub mod Encoding
+pub mod Decoding
+pub mod Promises

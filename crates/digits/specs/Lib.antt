@@ -1,0 +1,5 @@
+-- Numbers as half-range digits, and what Encode and Decode answer.
+pub mod Number
+pub mod Encoding
+pub mod Decoding
+pub mod Promises

@@ -1,0 +1,22 @@
+-- Tests as flags: two that both hold, two of which neither does, and two comparisons that hold together.
+-- Assumes nothing.
+use mathlib.Core.Path.{_≡_, refl, sym, _∙_}
+use mathlib.Core.Bool.{Bool, true, false, _&&_, _||_, false≢true, true≢false}
+use Prim.Native.Nat.{ℕ, _≤_, _<_}
+use borrow.Author.Tests.{ltb-true, ltb-false, lt-ltb, le-ltb}
+use lib.Dec.{ltb}
+
+pub both : (a b : Bool) → (a && b) ≡ true → (a ≡ true) × (b ≡ true)
+both true b t = (refl, t)
+both false b t = absurd (false≢true t)
+
+pub neither : (a b : Bool) → (a || b) ≡ false → (a ≡ false) × (b ≡ false)
+neither true b t = absurd (true≢false t)
+neither false b t = (refl, t)
+
+pub ltb-same : (a b c d : ℕ) → (a < b → c < d) → (b ≤ a → d ≤ c) → ltb a b ≡ ltb c d
+ltb-same a b c d less more = go (ltb a b) refl
+  where
+    go : (t : Bool) → ltb a b ≡ t → ltb a b ≡ ltb c d
+    go true e = e ∙ sym (lt-ltb c d (less (ltb-true a b e)))
+    go false e = e ∙ sym (le-ltb c d (more (ltb-false a b e)))
