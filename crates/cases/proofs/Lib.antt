@@ -1,0 +1,2 @@
+-- The table of cases.
+pub mod Starred

@@ -1,0 +1,2 @@
+-- The cases that document 01 marks with *.
+pub mod Starred
