@@ -1,7 +1,7 @@
 -- The cases of Decode: which line of `decoding` the rules pick, and what accepted digits have passed.
 -- Assumes nothing.
 use mathlib.Core.Path.{_≡_}
-use mathlib.Core.Bool.{true, false, not, _||_}
+use mathlib.Core.Bool.{true, false, not}
 use mathlib.Core.List.{List}
 use Prim.Native.Nat.{ℕ, _-_, _^_, _≤_, _<_}
 use borrow.Author.Tests.{not-false, lt-ltb, le-ltb, ltb-false}
@@ -11,7 +11,7 @@ use Rattle.answer.specs.Outcome.{refused, accepted}
 use Rattle.answer.proofs.Outcome.{passed}
 use Rattle.field.specs.Primes.{listed}
 use Rattle.field.proofs.Flag.{neither}
-use Rattle.digits.specs.Number.{base, number, allBelow}
+use Rattle.digits.specs.Number.{base, mostDigits, wrongCount, number, allBelow}
 use Rattle.digits.specs.Decoding.{totalOf, decoding}
 
 module _ (p : ℕ) (digits : List ℕ) where
@@ -21,15 +21,15 @@ module _ (p : ℕ) (digits : List ℕ) where
   pub none-refused : listed p ≡ true → length digits < 1 → decoding p digits ≡ refused 9
   none-refused t h = rw (t, lt-ltb (length digits) 1 h)
 
-  pub many-refused : listed p ≡ true → 1 ≤ length digits → 16 < length digits → decoding p digits ≡ refused 9
-  many-refused t l h = rw (t, le-ltb (length digits) 1 l, lt-ltb 16 (length digits) h)
+  pub many-refused : listed p ≡ true → 1 ≤ length digits → mostDigits < length digits → decoding p digits ≡ refused 9
+  many-refused t l h = rw (t, le-ltb (length digits) 1 l, lt-ltb mostDigits (length digits) h)
 
-  pub digit-refused : listed p ≡ true → 1 ≤ length digits → length digits ≤ 16 → allBelow (base p) digits ≡ false → decoding p digits ≡ refused 23
-  digit-refused t l g b = rw (t, le-ltb (length digits) 1 l, le-ltb 16 (length digits) g, b)
+  pub digit-refused : listed p ≡ true → 1 ≤ length digits → length digits ≤ mostDigits → allBelow (base p) digits ≡ false → decoding p digits ≡ refused 23
+  digit-refused t l g b = rw (t, le-ltb (length digits) 1 l, le-ltb mostDigits (length digits) g, b)
 
   -- digits that pass all but the last rule
-  pub decoded : listed p ≡ true → 1 ≤ length digits → length digits ≤ 16 → allBelow (base p) digits ≡ true → decoding p digits ≡ totalOf (base p) digits
-  decoded t l g b = rw (t, le-ltb (length digits) 1 l, le-ltb 16 (length digits) g, b)
+  pub decoded : listed p ≡ true → 1 ≤ length digits → length digits ≤ mostDigits → allBelow (base p) digits ≡ true → decoding p digits ≡ totalOf (base p) digits
+  decoded t l g b = rw (t, le-ltb (length digits) 1 l, le-ltb mostDigits (length digits) g, b)
 
 pub total-refused : (B : ℕ) (digits : List ℕ) → 2 ^ 64 - 1 < number B digits → totalOf B digits ≡ refused 24
 total-refused B digits h = rw (lt-ltb (2 ^ 64 - 1) (number B digits) h)
@@ -41,7 +41,7 @@ total-fits B digits h = rw (le-ltb (2 ^ 64 - 1) (number B digits) h)
 pub record Decodes (p : ℕ) (digits : List ℕ) (x : ℕ) : Type 0 where
   pub prime : listed p ≡ true
   pub one : 1 ≤ length digits
-  pub sixteen : length digits ≤ 16
+  pub most : length digits ≤ mostDigits
   pub below : allBelow (base p) digits ≡ true
   pub fits : number (base p) digits ≤ 2 ^ 64 - 1
   pub same : number (base p) digits ≡ x
@@ -49,14 +49,14 @@ pub record Decodes (p : ℕ) (digits : List ℕ) (x : ℕ) : Type 0 where
 pub decodes : (p : ℕ) (digits : List ℕ) (x : ℕ) → decoding p digits ≡ accepted x → Decodes p digits x
 decodes p digits x e =
     let prime = passed (not (listed p)) 3 _ e in
-    let count = passed (ltb (length digits) 1 || ltb 16 (length digits)) 9 _ (prime .1) in
-    let range = neither (ltb (length digits) 1) (ltb 16 (length digits)) (count .0) in
+    let count = passed (wrongCount (length digits)) 9 _ (prime .1) in
+    let range = neither (ltb (length digits) 1) (ltb mostDigits (length digits)) (count .0) in
     let below = passed (not (allBelow (base p) digits)) 23 _ (count .1) in
     let total = passed (ltb (2 ^ 64 - 1) (number (base p) digits)) 24 _ (below .1) in
     record {
       prime = not-false (listed p) (prime .0);
       one = ltb-false (length digits) 1 (range .0);
-      sixteen = ltb-false 16 (length digits) (range .1);
+      most = ltb-false mostDigits (length digits) (range .1);
       below = not-false (allBelow (base p) digits) (below .0);
       fits = ltb-false (2 ^ 64 - 1) (number (base p) digits) (total .0);
       same = cc;

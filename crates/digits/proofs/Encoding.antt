@@ -1,7 +1,7 @@
 -- The cases of Encode: which line of `encoding` the rules pick, and what an accepted number has passed.
 -- Assumes nothing.
 use mathlib.Core.Path.{_≡_}
-use mathlib.Core.Bool.{true, false, not, _||_}
+use mathlib.Core.Bool.{true, false, not}
 use mathlib.Core.List.{List, _++_}
 use Prim.Native.Nat.{ℕ, _^_, _≤_, _<_}
 use borrow.Author.Tests.{not-false, lt-ltb, le-ltb, le-leb, lt-leb, ltb-false, leb-false}
@@ -11,7 +11,7 @@ use Rattle.answer.specs.Outcome.{accepted, unaltered}
 use Rattle.answer.proofs.Outcome.{passed-lent}
 use Rattle.field.specs.Primes.{listed}
 use Rattle.field.proofs.Flag.{neither}
-use Rattle.digits.specs.Number.{base, digitsOf}
+use Rattle.digits.specs.Number.{base, mostDigits, wrongCount, digitsOf}
 use Rattle.digits.specs.Encoding.{encoding}
 
 module _ (p n x : ℕ) (out : List ℕ) where
@@ -21,40 +21,40 @@ module _ (p n x : ℕ) (out : List ℕ) where
   pub none-refused : listed p ≡ true → n < 1 → encoding p n x out ≡ unaltered out 9
   none-refused t h = rw (t, lt-ltb n 1 h)
 
-  pub many-refused : listed p ≡ true → 1 ≤ n → 16 < n → encoding p n x out ≡ unaltered out 9
-  many-refused t l h = rw (t, le-ltb n 1 l, lt-ltb 16 n h)
+  pub many-refused : listed p ≡ true → 1 ≤ n → mostDigits < n → encoding p n x out ≡ unaltered out 9
+  many-refused t l h = rw (t, le-ltb n 1 l, lt-ltb mostDigits n h)
 
-  pub room-refused : listed p ≡ true → 1 ≤ n → n ≤ 16 → length out < n → encoding p n x out ≡ unaltered out 21
-  room-refused t l g h = rw (t, le-ltb n 1 l, le-ltb 16 n g, lt-ltb (length out) n h)
+  pub room-refused : listed p ≡ true → 1 ≤ n → n ≤ mostDigits → length out < n → encoding p n x out ≡ unaltered out 21
+  room-refused t l g h = rw (t, le-ltb n 1 l, le-ltb mostDigits n g, lt-ltb (length out) n h)
 
-  pub large-refused : listed p ≡ true → 1 ≤ n → n ≤ 16 → n ≤ length out → base p ^ n ≤ x → encoding p n x out ≡ unaltered out 22
+  pub large-refused : listed p ≡ true → 1 ≤ n → n ≤ mostDigits → n ≤ length out → base p ^ n ≤ x → encoding p n x out ≡ unaltered out 22
   large-refused t l g r h =
-      rw (t, le-ltb n 1 l, le-ltb 16 n g, le-ltb (length out) n r, le-leb (base p ^ n) x h)
+      rw (t, le-ltb n 1 l, le-ltb mostDigits n g, le-ltb (length out) n r, le-leb (base p ^ n) x h)
 
-  pub encoded : listed p ≡ true → 1 ≤ n → n ≤ 16 → n ≤ length out → x < base p ^ n
+  pub encoded : listed p ≡ true → 1 ≤ n → n ≤ mostDigits → n ≤ length out → x < base p ^ n
       → encoding p n x out ≡ record { answer = accepted tt; lent = digitsOf (base p) n x ++ drop n out }
   encoded t l g r h =
-      rw (t, le-ltb n 1 l, le-ltb 16 n g, le-ltb (length out) n r, lt-leb (base p ^ n) x h)
+      rw (t, le-ltb n 1 l, le-ltb mostDigits n g, le-ltb (length out) n r, lt-leb (base p ^ n) x h)
 
 -- every rule that an accepted number has passed
 pub record Encodes (p n x : ℕ) (out : List ℕ) : Type 0 where
   pub prime : listed p ≡ true
   pub one : 1 ≤ n
-  pub sixteen : n ≤ 16
+  pub most : n ≤ mostDigits
   pub room : n ≤ length out
   pub small : x < base p ^ n
 
 pub encodes : (p n x : ℕ) (out : List ℕ) → encoding p n x out .answer ≡ accepted tt → Encodes p n x out
 encodes p n x out e =
     let prime = passed-lent (not (listed p)) out 3 _ e in
-    let count = passed-lent (ltb n 1 || ltb 16 n) out 9 _ (prime .1) in
-    let range = neither (ltb n 1) (ltb 16 n) (count .0) in
+    let count = passed-lent (wrongCount n) out 9 _ (prime .1) in
+    let range = neither (ltb n 1) (ltb mostDigits n) (count .0) in
     let room = passed-lent (ltb (length out) n) out 21 _ (count .1) in
     let small = passed-lent (leb (base p ^ n) x) out 22 _ (room .1) in
     record {
       prime = not-false (listed p) (prime .0);
       one = ltb-false n 1 (range .0);
-      sixteen = ltb-false 16 n (range .1);
+      most = ltb-false mostDigits n (range .1);
       room = ltb-false (length out) n (room .0);
       small = leb-false (base p ^ n) x (small .0);
     }

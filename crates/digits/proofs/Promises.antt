@@ -27,9 +27,9 @@ reads-back p n x out fits e =
     let back : number B ds ≡ x = number-digits B pos n x (a .small) in
     let count : length ds ≡ n = length-digits B n x in
     let lent : take n (encoding p n x out .lent) ≡ ds
-    = ap (λ (o : Outcome Unit). take n (o .lent)) (encoded p n x out (a .prime) (a .one) (a .sixteen) (a .room) (a .small)) ∙ take-at ds (drop n out) n count in
+    = ap (λ (o : Outcome Unit). take n (o .lent)) (encoded p n x out (a .prime) (a .one) (a .most) (a .room) (a .small)) ∙ take-at ds (drop n out) n count in
     ap (decoding p) lent
-    ∙ decoded p ds (a .prime) (omega (arith, a .one)) (omega (arith, a .sixteen)) (digits-below B pos n x)
+    ∙ decoded p ds (a .prime) (omega (arith, a .one)) (omega (arith, a .most)) (digits-below B pos n x)
     ∙ total-fits B ds (omega arith)
     ∙ ap accepted back
 
@@ -40,7 +40,7 @@ same-digits p x digits out e room =
     let small : x < B ^ length digits = rw (a .same) at (number-below B digits (a .below)) in
     let back : digitsOf B (length digits) x ≡ digits
     = ap (digitsOf B (length digits)) (sym (a .same)) ∙ digits-number B digits (a .below) in
-    encoded p (length digits) x out (a .prime) (a .one) (a .sixteen) room small
+    encoded p (length digits) x out (a .prime) (a .one) (a .most) room small
     ∙ ap (λ (ds : List ℕ). record { answer = accepted tt; lent = ds ++ drop (length digits) out }) back
 
 pub too-large : TooLarge

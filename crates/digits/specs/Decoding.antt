@@ -1,6 +1,6 @@
 -- Decode (document 01): "3, 9 list length, 23 a digit of B or more, 24 number above 2^64-1."
 use Prim.Native.Nat.{ℕ, _-_, _^_}
-use mathlib.Core.Bool.{not, _||_}
+use mathlib.Core.Bool.{not}
 use mathlib.Core.List.{List}
 use lib.Dec.{ltb}
 use lib.ListN.{length}
@@ -9,19 +9,19 @@ use Rattle.answer.specs.Outcome.{Answer, refused, accepted, refuse}
 use Rattle.field.specs.Primes.{listed}
 use Rattle.digits.specs.declared.Decoded.{Decoded}
 use Rattle.digits.specs.declared.Decoded.the-variants.{Number, Refused}
-use Rattle.digits.specs.Number.{base, number, allBelow}
+use Rattle.digits.specs.Number.{base, wrongCount, number, allBelow}
 
--- the paper's number, or the number decoded, for each case of the enum
+-- the refusal's number, or the number decoded, for each case of the enum
 abbrev pub decodeAnswer : Decoded → Answer ℕ
 decodeAnswer (Number x) = accepted x
 decodeAnswer (Refused why) = refused (refusalNumber why)
 
--- the number that digits below B stand for, if it is a u64
+-- "24 number above 2^64-1", or the number that the digits stand for
 abbrev pub totalOf : ℕ → List ℕ → Answer ℕ
 totalOf B digits = refuse (ltb (2 ^ 64 - 1) (number B digits)) (refused 24) (accepted (number B digits))
 
 abbrev pub decoding : ℕ → List ℕ → Answer ℕ
 decoding p digits =
     refuse (not (listed p)) (refused 3)
-    (refuse (ltb (length digits) 1 || ltb 16 (length digits)) (refused 9)
+    (refuse (wrongCount (length digits)) (refused 9)
     (refuse (not (allBelow (base p) digits)) (refused 23) (totalOf (base p) digits)))

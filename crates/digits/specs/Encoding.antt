@@ -1,6 +1,6 @@
 -- Encode (document 01): "3, 9 n, 21 out under n, 22 number (u64) not below B^n. Fills n bytes only."
 use Prim.Native.Nat.{ℕ, _^_}
-use mathlib.Core.Bool.{not, _||_}
+use mathlib.Core.Bool.{not}
 use mathlib.Core.List.{List, _++_}
 use lib.Dec.{ltb, leb}
 use lib.ListN.{length, drop}
@@ -9,9 +9,9 @@ use Rattle.answer.specs.Outcome.{Answer, refused, accepted, Outcome, unaltered,
 use Rattle.field.specs.Primes.{listed}
 use Rattle.digits.specs.declared.Encoded.{Encoded}
 use Rattle.digits.specs.declared.Encoded.the-variants.{Done, Refused}
-use Rattle.digits.specs.Number.{base, digitsOf}
+use Rattle.digits.specs.Number.{base, wrongCount, digitsOf}
 
--- the paper's number, or nothing, for each case of the enum
+-- the refusal's number, or no value, for each case of the enum
 abbrev pub encodeAnswer : Encoded → Answer Unit
 encodeAnswer Done = accepted tt
 encodeAnswer (Refused why) = refused (refusalNumber why)
@@ -19,7 +19,7 @@ encodeAnswer (Refused why) = refused (refusalNumber why)
 abbrev pub encoding : ℕ → ℕ → ℕ → List ℕ → Outcome Unit
 encoding p n x out =
     refuse (not (listed p)) (unaltered out 3)
-    (refuse (ltb n 1 || ltb 16 n) (unaltered out 9)
+    (refuse (wrongCount n) (unaltered out 9)
     (refuse (ltb (length out) n) (unaltered out 21)
     (refuse (leb (base p ^ n) x) (unaltered out 22)
     (record { answer = accepted tt; lent = digitsOf (base p) n x ++ drop n out }))))

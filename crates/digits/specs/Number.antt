@@ -1,6 +1,6 @@
 -- Numbers as digits (document 01, "Field and digits").
 use Prim.Native.Nat.{ℕ, zero, suc, _+_, _*_, _/_, _%_, _^_}
-use mathlib.Core.Bool.{Bool, true, _&&_}
+use mathlib.Core.Bool.{Bool, true, _&&_, _||_}
 use mathlib.Core.List.{List, [], _∷_}
 use lib.Dec.{ltb}
 use lib.ListN.{length, getD}
@@ -9,6 +9,14 @@ use Rattle.field.specs.Sum.{sum}
 -- "B = (p+1)/2"
 abbrev pub base : ℕ → ℕ
 base p = (p + 1) / 2
+
+-- "n (1 to 16)"
+abbrev pub mostDigits : ℕ
+mostDigits = 16
+
+-- n is not 1 to 16
+abbrev pub wrongCount : ℕ → Bool
+wrongCount n = ltb n 1 || ltb mostDigits n
 
 -- "stands for the sum of digit j times B^j", lowest first
 unfoldable pub number : ℕ → List ℕ → ℕ

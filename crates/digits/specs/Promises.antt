@@ -7,7 +7,7 @@ use Prim.Native.Nat.{ℕ, _-_, _^_, _≤_, _<_}
 use lib.ListN.{length, take, drop}
 use Rattle.answer.specs.Outcome.{refused, accepted}
 use Rattle.field.specs.Primes.{listed}
-use Rattle.digits.specs.Number.{base, number, allBelow}
+use Rattle.digits.specs.Number.{base, mostDigits, number, allBelow}
 use Rattle.digits.specs.Encoding.{encoding}
 use Rattle.digits.specs.Decoding.{decoding}
 
@@ -26,13 +26,13 @@ SameDigits =
 -- Encode gives 22 exactly where the number is not below B^n, and otherwise accepts
 abbrev pub TooLarge : Type 0
 TooLarge =
-    (p n x : ℕ) (out : List ℕ) → listed p ≡ true → 1 ≤ n → n ≤ 16 → n ≤ length out
+    (p n x : ℕ) (out : List ℕ) → listed p ≡ true → 1 ≤ n → n ≤ mostDigits → n ≤ length out
     → ((encoding p n x out .answer ≡ refused 22) ↔ (base p ^ n ≤ x))
     × ((encoding p n x out .answer ≡ accepted tt) ↔ (x < base p ^ n))
 
 -- Decode gives 24 exactly where the sum is above 2^64-1, and otherwise accepts
 abbrev pub TooWide : Type 0
 TooWide =
-    (p : ℕ) (digits : List ℕ) → listed p ≡ true → 1 ≤ length digits → length digits ≤ 16 → allBelow (base p) digits ≡ true
+    (p : ℕ) (digits : List ℕ) → listed p ≡ true → 1 ≤ length digits → length digits ≤ mostDigits → allBelow (base p) digits ≡ true
     → ((decoding p digits ≡ refused 24) ↔ (2 ^ 64 - 1 < number (base p) digits))
     × ((decoding p digits ≡ accepted (number (base p) digits)) ↔ (number (base p) digits ≤ 2 ^ 64 - 1))

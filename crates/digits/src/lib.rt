@@ -20,8 +20,11 @@ pub enum Decoded {
     Refused(Refusal),
 }
 
+// The most digits of a number.
+const MOST_DIGITS: usize = 16;
+
 // The largest u64.
-const MOST: u64 = 0xffff_ffff_ffff_ffff;
+const LARGEST: u64 = 0xffff_ffff_ffff_ffff;
 
 fn wide(x: u8) -> u64
     ensures { λ r. ⌜ (r ≡ x) × (r < 256) ⌝ }
@@ -41,7 +44,7 @@ fn is_below_power(x: u64, base: u64, n: usize) -> bool
     requires { ⌜ 0 < base ⌝ }
     ensures { λ r. ⌜ r ≡ ltb x (base ^ n) ⌝ }
 {
-    let most = MOST / base;
+    let most = LARGEST / base;
     let mut power: u64 = 1;
     let mut i = 0;
     while i < n {
@@ -79,7 +82,7 @@ pub fn encode(p: u8, n: usize, number: u64, out: &mut [u8]) -> Encoded
     if n < 1 {
         return Encoded::Refused(Refusal::DigitCount);
     }
-    if 16 < n {
+    if MOST_DIGITS < n {
         return Encoded::Refused(Refusal::DigitCount);
     }
     if out.len() < n {
@@ -126,8 +129,8 @@ fn total(digits: &[u8], base: u64) -> Decoded
     requires { ⌜ (0 < base) × (allBelow base (now digits) ≡ true) ⌝ }
     ensures { λ r. ⌜ decodeAnswer r ≡ totalOf base (now (digits .entry)) ⌝ }
 {
-    let most = MOST / base;
-    let last = MOST % base;
+    let most = LARGEST / base;
+    let last = LARGEST % base;
     let mut sum: u64 = 0;
     let mut i = digits.len();
     while 0 < i {
@@ -151,7 +154,7 @@ pub fn decode(p: u8, digits: &[u8]) -> Decoded
     if digits.len() < 1 {
         return Decoded::Refused(Refusal::DigitCount);
     }
-    if 16 < digits.len() {
+    if MOST_DIGITS < digits.len() {
         return Decoded::Refused(Refusal::DigitCount);
     }
     let base = base_of(p);

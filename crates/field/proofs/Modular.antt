@@ -2,9 +2,10 @@
 -- so that every identity is one of sums and products. `mod-of` turns an equation up to multiples of p into a congruence, and `strip` takes inner remainders away.
 -- Assumes nothing.
 use mathlib.Core.Path.{_≡_, refl, sym, ap, ap₂, _∙_}
+use mathlib.Core.Logic.{_↔_}
 use Prim.Native.Nat.{ℕ, zero, suc, _+_, _-_, _*_, _/_, _%_, _^_, _≤_, _<_}
 use native.Mathlib.Omega.{arith}
-use native.Mathlib.Nat.{add-mul-mod-self-right, mod-add-div', mod-mod, mod-add-mod, add-mod-mod, mod-lt, zero-mod, le-of-lt, add-zero, add-assoc, mul-comm, pow-zero, pow-suc}
+use native.Mathlib.Nat.{add-mul-mod-self-right, mod-add-div', mod-mod, mod-add-mod, add-mod-mod, mod-lt, zero-mod, le-of-lt, add-zero, add-assoc, add-comm, mul-comm, pow-zero, pow-suc}
 use native.Mathlib.Numerals.{sub-one}
 use Rattle.field.specs.Modular.{residue, addMod, subMod, mulMod}
 
@@ -41,13 +42,30 @@ pow-cong p a b (suc n) h = simp pow-suc (mul-cong p (a ^ n) (b ^ n) a b (pow-con
 -- ---- minus x is p - 1 times x
 
 pub minus-add : (p x : ℕ) → 0 < p → ((p - 1) * x + x) % p ≡ 0
-minus-add (suc m) x h = simp (sub-one) (mod-of (suc m) 0 x _ 0 (omega arith) ∙ zero-mod (suc m))
+minus-add (suc m) x h = simp sub-one (mod-of (suc m) 0 x _ 0 (omega arith) ∙ zero-mod (suc m))
 
 pub minus-minus : (p x : ℕ) → 0 < p → ((p - 1) * ((p - 1) * x)) % p ≡ x % p
-minus-minus (suc m) x h = simp (sub-one) (mod-of (suc m) x (m * x) _ _ (omega arith))
+minus-minus (suc m) x h = simp sub-one (mod-of (suc m) x (m * x) _ _ (omega arith))
 
 pub minus-product : (p a b : ℕ) → b ≤ p → 0 < p → (a + (p - b)) % p ≡ (a + (p - 1) * b) % p
-minus-product (suc m) a b l h = simp (sub-one) (mod-of (suc m) b 1 _ _ (omega arith))
+minus-product (suc m) a b l h = simp sub-one (mod-of (suc m) b 1 _ _ (omega arith))
+
+-- what is added to both sides goes
+pub add-cancel : (p a b c : ℕ) → 0 < p → (a + c) % p ≡ (b + c) % p → a % p ≡ b % p
+add-cancel p a b c h e = sym (back a) ∙ add-cong p (a + c) (b + c) _ _ e refl ∙ back b
+  where
+    back : (x : ℕ) → (x + c + (p - 1) * c) % p ≡ x % p
+    back x = ap (λ (n : ℕ). n % p) (omega arith) ∙ add-cong p x x ((p - 1) * c + c) 0 refl (minus-add p c h ∙ sym (zero-mod p)) ∙ simp add-zero
+
+-- two numbers are congruent exactly where their difference leaves no remainder
+pub minus-zero : (p a b : ℕ) → 0 < p → ((a + (p - 1) * b) % p ≡ 0) ↔ (a % p ≡ b % p)
+minus-zero p a b h = (
+  λ e. add-cancel p a b ((p - 1) * b) h (e ∙ sym (none b)),
+  λ e. add-cong p a b ((p - 1) * b) ((p - 1) * b) e refl ∙ none b,
+)
+  where
+    none : (x : ℕ) → (x + (p - 1) * x) % p ≡ 0
+    none x = ap (λ (n : ℕ). n % p) (add-comm x _) ∙ minus-add p x h
 
 -- ---- the operations
 

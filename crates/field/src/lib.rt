@@ -137,10 +137,10 @@ pub fn ceil_log2(n: u16) -> u16
     ensures { λ r. ⌜ r ≡ clog n ⌝ }
 {
     let mut rest = n;
-    let mut halvings = 0;
+    let mut levels = 0;
     while 1 < rest {
         rest = rest / 2 + rest % 2;
-        halvings += 1;
+        levels += 1;
     }
-    halvings
+    levels
 }

@@ -64,7 +64,7 @@ returns-5 c =
 put-digits-requires : tie.Need-put-digits-requires
 put-digits-requires c κs =
     let b = c .before .before .before in
-    (rw (b .base-of .ensures .0) (base-pos _ (prime (b .before .before .before .before))), omega (arith, b .base-of .ensures .1), b .before .if4 .left)
+    (rw (b .base-of .ensures .0) (base-pos _ (prime (b .before .before .before .before))), omega (arith, b .base-of .ensures .1), omega (arith, b .before))
 
 same-length : tie.Need-same-length
 same-length c = search needs

@@ -1,4 +1,4 @@
--- `digits::is_below_power` meets its contract. The invariant: power is base^i. A power above MOST / base passes every u64 with one factor more,
+-- `digits::is_below_power` meets its contract. The invariant: power is base^i. A power above LARGEST / base passes every u64 with one factor more,
 -- and any other has room for it. The measure is what is left of n.
 -- Assumes nothing.
 use mathlib.Core.Path.{_≡_, sym, ap, _∙_}

@@ -5,7 +5,7 @@ use mathlib.Core.Path.{_≡_, refl, sym, ap, ap₂, _∙_}
 use mathlib.Core.List.{List, [], _∷_, _++_, append-assoc}
 use Prim.Native.Nat.{ℕ, suc, _+_, _-_, _/_, _%_, _≤_, _<_}
 use native.Mathlib.Omega.{arith}
-use native.Mathlib.Nat.{mod-lt, sub-zero}
+use native.Mathlib.Nat.{mod-lt, lt-of-lt-of-le, sub-zero}
 use native.Mathlib.Numerals.{add-one}
 use borrow.Author.Needs.{needs}
 use lib.ListN.{length, take, drop, set, length-set, take-append-drop}
@@ -52,8 +52,8 @@ rem-out c = search needs
 
 cast-out : tie.Need-cast-out Inv-loop μ-loop
 cast-out c =
-    let a = c .before .before in
-    omega (arith, mod-lt (c .before .loop .rest) (a .pre .0))
+    let s = c .before .before in
+    record { fits = lt-of-lt-of-le (mod-lt _ (s .pre .0)) (s .pre .1) }
 
 slice-write-out : tie.Need-slice-write-out Inv-loop μ-loop
 slice-write-out c = search needs

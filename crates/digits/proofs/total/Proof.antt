@@ -7,12 +7,13 @@ use Prim.Native.Nat.{ℕ, zero, suc, _+_, _-_, _*_, _^_, _≤_, _<_}
 use native.Mathlib.Omega.{arith}
 use native.Mathlib.Nat.{mod-lt, div-add-mod'}
 use borrow.Author.Needs.{needs}
-use borrow.Author.Tests.{ltb-true, ltb-false, lt-ltb, le-ltb}
+use borrow.Author.Tests.{ltb-true, ltb-false}
 use lib.ListN.{length, drop, getD}
 use lib.Seq.{drop-cons, drop-length}
 use Rattle.answer.specs.Outcome.{refused, accepted}
 use Rattle.digits.specs.Number.{number}
 use Rattle.digits.specs.Decoding.{totalOf}
+use Rattle.digits.proofs.Decoding.{total-refused, total-fits}
 use Rattle.digits.proofs.Number.{number-nil, number-cons, number-drop, below-at}
 use Rattle.digits.proofs.total.Statement.{statement}
 use Rattle.digits.proofs.total.Tie as tie
@@ -42,12 +43,10 @@ turn base digits i sum digit p l e d =
     )
 
 over : (base : ℕ) (digits : List ℕ) (i sum : ℕ) → 0 < base → sum ≡ number base (drop i digits) → 2 ^ 64 - 1 < sum → refused 24 ≡ totalOf base digits
-over base digits i sum p e h =
-    rw (lt-ltb (2 ^ 64 - 1) (number base digits) (omega (arith, number-drop base p digits i)))
+over base digits i sum p e h = sym (total-refused base digits (omega (arith, number-drop base p digits i)))
 
 whole : (base : ℕ) (digits : List ℕ) (i sum : ℕ) → i ≤ 0 → sum ≡ number base (drop i digits) → sum ≤ 2 ^ 64 - 1 → accepted sum ≡ totalOf base digits
-whole base digits zero sum h e fits =
-    rw (← e, le-ltb (2 ^ 64 - 1) sum fits)
+whole base digits zero sum h e fits = ap accepted e ∙ sym (total-fits base digits (omega arith))
 whole base digits (suc i) sum h e fits = absurd (omega arith)
 
 div-most : tie.Need-div-most Inv-loop μ-loop
@@ -72,7 +71,7 @@ passes-requires : tie.Need-passes-requires Inv-loop μ-loop
 passes-requires c κs =
     let l = c .before .before in
     let s = l .before .before .before in
-    (div-add-mod' (2 ^ 64 - 1) (s .args .base), mod-lt (2 ^ 64 - 1) (s .pre .0), rw (c .wide .ensures .0) (below-at _ _ (l .before .loop .i - 1) (s .pre .1) (omega arith)))
+    (div-add-mod' (2 ^ 64 - 1) (s .args .base), mod-lt (2 ^ 64 - 1) (s .pre .0), rw (c .wide .ensures .0) (below-at _ _ _ (s .pre .1) (omega arith)))
 
 returns : tie.Need-returns Inv-loop μ-loop
 returns c =

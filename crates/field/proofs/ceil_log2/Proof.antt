@@ -1,4 +1,4 @@
--- `field::ceil_log2` meets its contract. The invariant: the halvings so far and clog of the rest make clog n, and the halvings and the rest are at most n.
+-- `field::ceil_log2` meets its contract. The invariant: the levels so far and clog of the rest make clog n, and the levels and the rest are at most n.
 -- The measure is the rest. Assumes nothing.
 use mathlib.Core.Path.{_≡_, ap}
 use Prim.Native.Nat.{ℕ, _+_, _/_, _%_, _≤_}
@@ -9,10 +9,10 @@ use Rattle.field.proofs.ceil_log2.Statement.{statement}
 use Rattle.field.proofs.ceil_log2.Tie as tie
 
 abbrev Inv-loop : tie.InvT-loop
-Inv-loop n rest₀ halvings₀ rest halvings = (halvings + clog rest ≡ clog n) × (halvings + rest ≤ n)
+Inv-loop n rest₀ levels₀ rest levels = (levels + clog rest ≡ clog n) × (levels + rest ≤ n)
 
 abbrev μ-loop : tie.MeasureT-loop
-μ-loop n rest₀ halvings₀ rest halvings = rest
+μ-loop n rest₀ levels₀ rest levels = rest
 
 half-up : (n : ℕ) → (n + 1) / 2 ≡ n / 2 + n % 2
 half-up n = omega arith
@@ -23,8 +23,8 @@ loop-holds c = omega arith
 add-rest : tie.Need-add-rest Inv-loop μ-loop
 add-rest c = omega arith
 
-add-halvings : tie.Need-add-halvings Inv-loop μ-loop
-add-halvings c = omega arith
+add-levels : tie.Need-add-levels Inv-loop μ-loop
+add-levels c = omega arith
 
 loop-less : tie.Need-loop-less Inv-loop μ-loop
 loop-less c = omega arith
@@ -40,4 +40,4 @@ returns c = omega (arith, clog-small (c .before .loop .rest) (c .loop-test .left
 pub ceil-log2-spec : {M : Type 1} → statement M
 ceil-log2-spec =
     tie.close
-    (tie.spec Inv-loop μ-loop loop-holds add-rest add-halvings loop-less loop-again returns)
+    (tie.spec Inv-loop μ-loop loop-holds add-rest add-levels loop-less loop-again returns)

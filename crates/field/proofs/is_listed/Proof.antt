@@ -44,7 +44,7 @@ prime-at-requires c κs = search needs
 
 returns : tie.Need-returns Inv-loop μ-loop
 returns c =
-    found _ _ _ (c .before .before .loop-test .taken) (c .before .prime-at .ensures) (c .before .before .before .loop .inv .1) (c .if1 .taken)
+    found _ _ _ (omega arith) (c .before .prime-at .ensures) (c .before .before .before .loop .inv .1) (c .if1 .taken)
 
 add-place : tie.Need-add-place Inv-loop μ-loop
 add-place c = search needs
@@ -54,10 +54,10 @@ loop-less c = search needs
 
 loop-again : tie.Need-loop-again Inv-loop μ-loop
 loop-again c =
-    (omega arith, passed _ _ _ (c .before .before .loop-test .taken) (c .before .prime-at .ensures) (c .before .before .before .loop .inv .1) (c .if1 .left))
+    (omega arith, passed _ _ _ (omega arith) (c .before .prime-at .ensures) (c .before .before .before .loop .inv .1) (c .if1 .left))
 
 returns-2 : tie.Need-returns-2 Inv-loop μ-loop
-returns-2 c = ended _ _ (c .loop-test .left) (c .before .loop .inv .1)
+returns-2 c = ended _ (c .before .loop .place) (omega arith) (c .before .loop .inv .1)
 
 pub is-listed-spec : {M : Type 1} → statement M
 is-listed-spec =

@@ -1,15 +1,15 @@
 -- `field::mul_mod` meets its contract: the product of two bytes fits 16 bits.
 -- Assumes nothing.
 use native.Mathlib.Omega.{arith}
-use native.Mathlib.Nat.{mul-le-mul}
-use Prim.Native.Nat.{_*_, _≤_}
+use native.Mathlib.Nat.{mul-le-mul, lt-of-le-of-lt}
+use lib.Dec.{lit<}
 use borrow.Author.Needs.{needs}
 use Rattle.field.proofs.mul_mod.Statement.{statement}
 use Rattle.field.proofs.mul_mod.Tie as tie
 
 mul-remainder : tie.Need-mul-remainder
 mul-remainder c =
-    let product : c .args .a * c .args .b ≤ 255 * 255 = mul-le-mul {n₂ = 255} {m₂ = 255} (omega arith) (omega arith) in omega arith
+    record { fits = lt-of-le-of-lt (mul-le-mul {n₂ = 255} {m₂ = 255} (omega arith) (omega arith)) (lit< tt) }
 
 remainder-requires : tie.Need-remainder-requires
 remainder-requires c κs = search needs

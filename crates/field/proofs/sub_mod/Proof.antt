@@ -1,9 +1,9 @@
--- `field::sub_mod` meets its contract: a + (p - 1) * b fits 16 bits, and is a - b modulo p.
+-- `field::sub_mod` meets its contract: the product of two bytes and a third fit 16 bits, and a + (p - 1) * b is a - b modulo p.
 -- Assumes nothing.
 use mathlib.Core.Path.{sym, _∙_}
 use native.Mathlib.Omega.{arith}
-use native.Mathlib.Nat.{mul-le-mul}
-use Prim.Native.Nat.{ℕ, _-_, _*_, _≤_}
+use native.Mathlib.Nat.{add-le-add, mul-le-mul, lt-of-le-of-lt}
+use lib.Dec.{lit<}
 use borrow.Author.Needs.{needs}
 use Rattle.field.specs.Modular.{residue}
 use Rattle.field.proofs.Modular.{residue-is, subMod-is}
@@ -20,17 +20,14 @@ sub-remainder c = search needs
 cast-remainder : tie.Need-cast-remainder
 cast-remainder c = search needs
 
--- (p - 1) * b is at most 254 * 255
-product : (p b : ℕ) → p ≤ 255 → b ≤ 255 → (p - 1) * b ≤ 254 * 255
-product p b h k = mul-le-mul {n₂ = 254} {m₂ = 255} (omega arith) k
-
+-- the product of two bytes, and with a byte more
 mul-remainder : tie.Need-mul-remainder
 mul-remainder c =
-    let a = c .before .args in omega (arith, product (a .p) (a .b) (omega arith) (omega arith))
+    record { fits = lt-of-le-of-lt (mul-le-mul {n₂ = 255} {m₂ = 255} (omega arith) (omega arith)) (lit< tt) }
 
 add-remainder : tie.Need-add-remainder
 add-remainder c =
-    let a = c .before .args in omega (arith, product (a .p) (a .b) (omega arith) (omega arith))
+    record { fits = lt-of-le-of-lt (add-le-add {b = 255} (omega arith) (mul-le-mul {n₂ = 255} {m₂ = 255} (omega arith) (omega arith))) (lit< tt) }
 
 remainder-requires : tie.Need-remainder-requires
 remainder-requires c κs = search needs
