@@ -1,6 +1,6 @@
 -- The rule of the list of primes: every entry is prime, the entries ascend, and every odd prime from 3 to 251 is among them.
 -- The list is made by trial division, so the rule holds of every list so made, by induction on the numbers tried.
--- That the code's array is this very list is one computed test, in `proofs/prime_at`.
+-- That the code's array is this very list is one computed test, in `proofs/is_listed`.
 -- Assumes nothing.
 use mathlib.Core.Path.{_≡_, refl, subst}
 use mathlib.Core.Bool.{Bool, true, false, not, _||_, false≢true, or-true}
@@ -11,8 +11,7 @@ use native.Mathlib.Omega.{arith}
 use native.Mathlib.Decide.{ℕ-discrete}
 use borrow.Author.Tests.{eqb-true, eqb-false, eq-eqb, ne-eqb, not-true}
 use lib.Dec.{eqb}
-use lib.ListN.{length, drop, getD}
-use lib.Seq.{drop-cons}
+use lib.ListN.{length, getD}
 use Rattle.field.proofs.Flag.{both}
 use Rattle.field.specs.Primes.{Prime, OddPrime, noDivisor, keep, primesFrom, primes, member, listed}
 
@@ -47,12 +46,6 @@ prime-trial p prime =
     noDivisor-complete (p - 2) 2 p (λ e l g. prime .undivided e l (omega (arith, prime .two)))
 
 -- ---- membership
-
--- what stands from a place on: the entry there, and what stands after it
-pub member-drop : (x i : ℕ) (xs : List ℕ) → i < length xs
-    → member x (drop i xs) ≡ (eqb (getD xs i 0) x || member x (drop (suc i) xs))
-unfolding member
-member-drop x i xs h = rw (drop-cons xs i 0)
 
 -- the first entry is x, or a later one is
 member-cons : (x y : ℕ) (ys : List ℕ) → member x (y ∷ ys) ≡ true → (y ≡ x) ⊎ (member x ys ≡ true)

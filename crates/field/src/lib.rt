@@ -1,8 +1,6 @@
 // The prime field: which primes are listed, arithmetic modulo p, logarithms.
 ghost use mathlib.Core.Path.{_≡_};
-ghost use Prim.Native.Nat.{_<_};
-ghost use lib.ListN.{getD};
-ghost use Rattle.field.specs.Primes.{primes, listed};
+ghost use Rattle.field.specs.Primes.{member, listed};
 ghost use Rattle.field.specs.Modular.{residue, addMod, subMod, mulMod};
 ghost use Rattle.field.specs.Logarithm.{flog, clog};
 
@@ -63,26 +61,25 @@ const PRIMES: [u8; 53] = [
     251,
 ];
 
-// The list's entry at a place.
-fn prime_at(place: usize) -> u8
-    requires { ⌜ place < 53 ⌝ }
-    ensures { λ r. ⌜ r ≡ getD primes place 0 ⌝ }
+// Whether x stands in the list.
+fn contains(list: &[u8], x: u8) -> bool
+    ensures { λ r. ⌜ r ≡ member x (now (list .entry)) ⌝ }
 {
-    PRIMES[place]
+    let mut place = 0;
+    while place < list.len() {
+        if list[place] == x {
+            return true;
+        }
+        place += 1;
+    }
+    false
 }
 
 // Whether p is one of the listed primes.
 pub fn is_listed(p: u8) -> bool
     ensures { λ r. ⌜ r ≡ listed p ⌝ }
 {
-    let mut place = 0;
-    while place < 53 {
-        if prime_at(place) == p {
-            return true;
-        }
-        place += 1;
-    }
-    false
+    contains(&PRIMES, p)
 }
 
 // x modulo p, and 0 where p is 0.
