@@ -1,34 +1,54 @@
--- The number of each refusal (document 01, "Operations and what they turn away").
+-- The number of each refusal (document 01, "Operations and what they turn away"), with the rule that gives it.
 use Prim.Native.Nat.{ℕ}
 use Rattle.answer.specs.declared.Refusal.{Refusal}
-use Rattle.answer.specs.declared.Refusal.the-variants.{CardTooShort, WrongMark, PrimeNotListed, WeightOutOfRange, SpareNotZero, ConditionCount, CardLength, UnknownRelation, DigitCount, TooManyDigits, TableTooSmall, HeadTooShort, SlotCount, GateCount, TableTooShort, UnknownKind, WrongOperand, ListLength, ValueTooLarge, WorkTooSmall, OutTooSmall, NumberTooLarge, DigitTooLarge, NumberTooWide}
+use Rattle.answer.specs.declared.Refusal.the-variants.{CardTooShort, WrongMark, PrimeNotListed, WeightOutOfRange, SpareNotZero, ConditionCount, CardLength, UnknownRelation, DigitCount, TooManyDigits, TableBufferTooSmall, TableHeadTooShort, SlotCount, GateCount, TableTooShort, UnknownKind, WrongOperand, ListLength, ValueTooLarge, WorkBufferTooSmall, OutBufferTooSmall, NumberTooLarge, DigitTooLarge, NumberTooWide}
 
 abbrev pub refusalNumber : Refusal → ℕ
--- Build and Forecast; 2 to 5 and 9 serve the others too
+-- card under 6 bytes
 refusalNumber CardTooShort = 1
+-- mark of a head, a condition or a gate
 refusalNumber WrongMark = 2
+-- p not listed
 refusalNumber PrimeNotListed = 3
+-- s not 50 to 100
 refusalNumber WeightOutOfRange = 4
+-- spare not 0
 refusalNumber SpareNotZero = 5
+-- c not 1 to 8
 refusalNumber ConditionCount = 6
+-- length not 6+4c
 refusalNumber CardLength = 7
+-- relation not 1 to 6
 refusalNumber UnknownRelation = 8
+-- n, or the length of a digit list, not 1 to 16
 refusalNumber DigitCount = 9
+-- N over 16
 refusalNumber TooManyDigits = 10
-refusalNumber TableTooSmall = 11
--- Check
-refusalNumber HeadTooShort = 12
+-- table lent under 8(G+1) bytes
+refusalNumber TableBufferTooSmall = 11
+-- table under 8 bytes
+refusalNumber TableHeadTooShort = 12
+-- N not 1 to 16
 refusalNumber SlotCount = 13
+-- G not 1 to 8191
 refusalNumber GateCount = 14
+-- table under 8(G+1) bytes
 refusalNumber TableTooShort = 15
+-- kind not 1 to 7
 refusalNumber UnknownKind = 16
+-- an operand against its kind
 refusalNumber WrongOperand = 17
--- Run
+-- left or right list not N long
 refusalNumber ListLength = 18
+-- a value of p or more
 refusalNumber ValueTooLarge = 19
-refusalNumber WorkTooSmall = 20
--- Encode and Decode
-refusalNumber OutTooSmall = 21
+-- work buffer under G
+refusalNumber WorkBufferTooSmall = 20
+-- out under n
+refusalNumber OutBufferTooSmall = 21
+-- number not below B^n
 refusalNumber NumberTooLarge = 22
+-- a digit of B or more
 refusalNumber DigitTooLarge = 23
+-- number above 2^64-1
 refusalNumber NumberTooWide = 24

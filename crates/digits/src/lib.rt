@@ -86,7 +86,7 @@ pub fn encode(p: u8, n: usize, number: u64, out: &mut [u8]) -> Encoded
         return Encoded::Refused(Refusal::DigitCount);
     }
     if out.len() < n {
-        return Encoded::Refused(Refusal::OutTooSmall);
+        return Encoded::Refused(Refusal::OutBufferTooSmall);
     }
     let base = base_of(p);
     if !is_below_power(number, base, n) {
