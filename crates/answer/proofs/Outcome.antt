@@ -1,22 +1,19 @@
--- What is accepted has passed every rule: taking a chain of refusals apart, one rule at a time.
+-- Chains of refusals: what is accepted has passed every rule, one rule at a time; and an outcome that is known gives its answer and its lent bytes.
 -- Assumes nothing.
-use mathlib.Core.Path.{_≡_, refl}
+use mathlib.Core.Path.{_≡_, refl, sym, ap, _∙_}
 use mathlib.Core.Bool.{Bool, true, false}
-use mathlib.Core.List.{List}
 use Prim.Native.Nat.{ℕ}
 use native.Mathlib.Omega.{arith}
-use Rattle.answer.specs.Outcome.{Answer, refused, accepted, Outcome, unaltered, refuse}
+use Rattle.answer.specs.Outcome.{Answer, refused, accepted, Outcome, refuse}
 
 pub refused≢accepted : {A : Type 0} {k : ℕ} {a : A} → refused k ≡ accepted a → ⊥
 refused≢accepted e = let z : _≡_ {A = ℕ} 0 1 = cc in omega arith
 
-pub passed : {A : Type 0} {a : A} (test : Bool) (k : ℕ) (later : Answer A) → refuse test (refused k) later ≡ accepted a
-    → (test ≡ false) × (later ≡ accepted a)
-passed true k later e = absurd (refused≢accepted e)
-passed false k later e = (refl, e)
+-- of answers, and of whatever holds an answer
+pub passed : {R A : Type 0} {k : ℕ} {a : A} (answer : R → Answer A) (test : Bool) (refusal later : R) → answer refusal ≡ refused k
+    → answer (refuse test refusal later) ≡ accepted a → (test ≡ false) × (answer later ≡ accepted a)
+passed answer true refusal later r e = absurd (refused≢accepted (sym r ∙ e))
+passed answer false refusal later r e = (refl, e)
 
--- the same of an outcome with lent bytes
-pub passed-lent : {A : Type 0} {a : A} (test : Bool) (bytes : List ℕ) (k : ℕ) (later : Outcome A) → refuse test (unaltered bytes k) later .answer ≡ accepted a
-    → (test ≡ false) × (later .answer ≡ accepted a)
-passed-lent true bytes k later e = absurd (refused≢accepted e)
-passed-lent false bytes k later e = (refl, e)
+pub said : {A : Type 0} {o line : Outcome A} → o ≡ line → (line .answer ≡ o .answer) × (line .lent ≡ o .lent)
+said e = (ap (λ o. o .answer) (sym e), ap (λ o. o .lent) (sym e))

@@ -1,16 +1,16 @@
 -- The cases of Decode: which line of `decoding` the rules pick, and what accepted digits have passed.
 -- Assumes nothing.
-use mathlib.Core.Path.{_≡_}
+use mathlib.Core.Path.{_≡_, refl}
 use mathlib.Core.Bool.{true, false, not}
 use mathlib.Core.List.{List}
 use Prim.Native.Nat.{ℕ, _-_, _^_, _≤_, _<_}
 use borrow.Author.Tests.{not-false, lt-ltb, le-ltb, ltb-false}
 use lib.Dec.{ltb}
 use lib.ListN.{length}
-use Rattle.answer.specs.Outcome.{refused, accepted}
+use Rattle.answer.specs.Outcome.{Answer, refused, accepted}
 use Rattle.answer.proofs.Outcome.{passed}
 use Rattle.field.specs.Primes.{listed}
-use Rattle.field.proofs.Flag.{neither}
+use Rattle.field.proofs.Tests.{neither}
 use Rattle.digits.specs.Number.{base, mostDigits, wrongCount, number, allBelow}
 use Rattle.digits.specs.Decoding.{totalOf, decoding}
 
@@ -48,11 +48,12 @@ pub record Decodes (p : ℕ) (digits : List ℕ) (x : ℕ) : Type 0 where
 
 pub decodes : (p : ℕ) (digits : List ℕ) (x : ℕ) → decoding p digits ≡ accepted x → Decodes p digits x
 decodes p digits x e =
-    let prime = passed (not (listed p)) 3 _ e in
-    let count = passed (wrongCount (length digits)) 9 _ (prime .1) in
+    let answer : Answer ℕ → Answer ℕ = λ a. a in
+    let prime = passed answer (not (listed p)) (refused 3) _ refl e in
+    let count = passed answer (wrongCount (length digits)) (refused 9) _ refl (prime .1) in
     let range = neither (ltb (length digits) 1) (ltb mostDigits (length digits)) (count .0) in
-    let below = passed (not (allBelow (base p) digits)) 23 _ (count .1) in
-    let total = passed (ltb (2 ^ 64 - 1) (number (base p) digits)) 24 _ (below .1) in
+    let below = passed answer (not (allBelow (base p) digits)) (refused 23) _ refl (count .1) in
+    let total = passed answer (ltb (2 ^ 64 - 1) (number (base p) digits)) (refused 24) _ refl (below .1) in
     record {
       prime = not-false (listed p) (prime .0);
       one = ltb-false (length digits) 1 (range .0);

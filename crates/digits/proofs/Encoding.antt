@@ -1,16 +1,16 @@
 -- The cases of Encode: which line of `encoding` the rules pick, and what an accepted number has passed.
 -- Assumes nothing.
-use mathlib.Core.Path.{_≡_}
+use mathlib.Core.Path.{_≡_, refl}
 use mathlib.Core.Bool.{true, false, not}
 use mathlib.Core.List.{List, _++_}
 use Prim.Native.Nat.{ℕ, _^_, _≤_, _<_}
 use borrow.Author.Tests.{not-false, lt-ltb, le-ltb, le-leb, lt-leb, ltb-false, leb-false}
 use lib.Dec.{ltb, leb}
 use lib.ListN.{length, drop}
-use Rattle.answer.specs.Outcome.{accepted, unaltered}
-use Rattle.answer.proofs.Outcome.{passed-lent}
+use Rattle.answer.specs.Outcome.{Answer, accepted, Outcome, unaltered}
+use Rattle.answer.proofs.Outcome.{passed}
 use Rattle.field.specs.Primes.{listed}
-use Rattle.field.proofs.Flag.{neither}
+use Rattle.field.proofs.Tests.{neither}
 use Rattle.digits.specs.Number.{base, mostDigits, wrongCount, digitsOf}
 use Rattle.digits.specs.Encoding.{encoding}
 
@@ -46,11 +46,12 @@ pub record Encodes (p n x : ℕ) (out : List ℕ) : Type 0 where
 
 pub encodes : (p n x : ℕ) (out : List ℕ) → encoding p n x out .answer ≡ accepted tt → Encodes p n x out
 encodes p n x out e =
-    let prime = passed-lent (not (listed p)) out 3 _ e in
-    let count = passed-lent (wrongCount n) out 9 _ (prime .1) in
+    let answer : Outcome Unit → Answer Unit = λ o. o .answer in
+    let prime = passed answer (not (listed p)) (unaltered out 3) _ refl e in
+    let count = passed answer (wrongCount n) (unaltered out 9) _ refl (prime .1) in
     let range = neither (ltb n 1) (ltb mostDigits n) (count .0) in
-    let room = passed-lent (ltb (length out) n) out 21 _ (count .1) in
-    let small = passed-lent (leb (base p ^ n) x) out 22 _ (room .1) in
+    let room = passed answer (ltb (length out) n) (unaltered out 21) _ refl (count .1) in
+    let small = passed answer (leb (base p ^ n) x) (unaltered out 22) _ refl (room .1) in
     record {
       prime = not-false (listed p) (prime .0);
       one = ltb-false n 1 (range .0);

@@ -12,7 +12,7 @@ use lib.Dec.{ltb}
 use lib.ListN.{length, drop, getD}
 use Rattle.field.specs.Primes.{listed}
 use Rattle.field.specs.Sum.{sum}
-use Rattle.field.proofs.Flag.{both}
+use Rattle.field.proofs.Tests.{both}
 use Rattle.field.proofs.Primes.{listed-iff}
 use Rattle.field.proofs.Sum.{sum-shift, sum-same, sum-mul}
 use Rattle.digits.specs.Number.{base, number, allBelow, digitsOf}

@@ -1,5 +1,5 @@
 -- Laws that other crates cite.
-pub mod Flag
+pub mod Tests
 pub mod Primes
 pub mod Modular
 pub mod Sum

@@ -50,12 +50,16 @@ minus-minus (suc m) x h = simp sub-one (mod-of (suc m) x (m * x) _ _ (omega arit
 pub minus-product : (p a b : ℕ) → b ≤ p → 0 < p → (a + (p - b)) % p ≡ (a + (p - 1) * b) % p
 minus-product (suc m) a b l h = simp sub-one (mod-of (suc m) b 1 _ _ (omega arith))
 
+-- minus x, and x, added to anything
+pub add-minus : (p a x : ℕ) → 0 < p → (a + ((p - 1) * x + x)) % p ≡ a % p
+add-minus p a x h = add-cong p a a ((p - 1) * x + x) 0 refl (minus-add p x h ∙ sym (zero-mod p)) ∙ simp add-zero
+
 -- what is added to both sides goes
 pub add-cancel : (p a b c : ℕ) → 0 < p → (a + c) % p ≡ (b + c) % p → a % p ≡ b % p
 add-cancel p a b c h e = sym (back a) ∙ add-cong p (a + c) (b + c) _ _ e refl ∙ back b
   where
     back : (x : ℕ) → (x + c + (p - 1) * c) % p ≡ x % p
-    back x = ap (λ (n : ℕ). n % p) (omega arith) ∙ add-cong p x x ((p - 1) * c + c) 0 refl (minus-add p c h ∙ sym (zero-mod p)) ∙ simp add-zero
+    back x = ap (λ (n : ℕ). n % p) (omega arith) ∙ add-minus p x c h
 
 -- two numbers are congruent exactly where their difference leaves no remainder
 pub minus-zero : (p a b : ℕ) → 0 < p → ((a + (p - 1) * b) % p ≡ 0) ↔ (a % p ≡ b % p)
@@ -90,5 +94,4 @@ subMod-is p a b h =
 -- subMod is subtraction: what it gives, added to b, is a
 pub sub-add : (p a b : ℕ) → 0 < p → (subMod p a b + b) % p ≡ a % p
 sub-add p a b h =
-    rw (subMod-is p a b h) (mod-add-mod _ p b ∙ ap (λ (n : ℕ). n % p) (add-assoc a _ b)
-    ∙ add-cong p a a _ 0 refl (minus-add p b h ∙ sym (zero-mod p)) ∙ simp add-zero)
+    rw (subMod-is p a b h) (mod-add-mod _ p b ∙ ap (λ (n : ℕ). n % p) (add-assoc a _ b) ∙ add-minus p a b h)

@@ -1,6 +1,6 @@
 -- The rule of the list of primes: every entry is prime, the entries ascend, and every odd prime from 3 to 251 is among them.
 -- The list is made by trial division, so the rule holds of every list so made, by induction on the numbers tried.
--- That the code's array is this very list is one computed test, in `proofs/is_listed`.
+-- That the code's array is this very list is one computed test, in `proofs/listed_primes`.
 -- Assumes nothing.
 use mathlib.Core.Path.{_≡_, refl, subst}
 use mathlib.Core.Bool.{Bool, true, false, not, _||_, false≢true, or-true}
@@ -12,7 +12,7 @@ use native.Mathlib.Decide.{ℕ-discrete}
 use borrow.Author.Tests.{eqb-true, eqb-false, eq-eqb, ne-eqb, not-true}
 use lib.Dec.{eqb}
 use lib.ListN.{length, getD}
-use Rattle.field.proofs.Flag.{both}
+use Rattle.field.proofs.Tests.{both}
 use Rattle.field.specs.Primes.{Prime, OddPrime, noDivisor, keep, primesFrom, primes, member, listed}
 
 -- ---- trial division

@@ -1,6 +1,6 @@
 // The prime field: which primes are listed, arithmetic modulo p, logarithms.
 ghost use mathlib.Core.Path.{_≡_};
-ghost use Rattle.field.specs.Primes.{member, listed};
+ghost use Rattle.field.specs.Primes.{primes, member, listed};
 ghost use Rattle.field.specs.Modular.{residue, addMod, subMod, mulMod};
 ghost use Rattle.field.specs.Logarithm.{flog, clog};
 
@@ -61,6 +61,13 @@ const PRIMES: [u8; 53] = [
     251,
 ];
 
+// The array of primes: that it is the list of the definition is its rule.
+fn listed_primes() -> [u8; 53]
+    ensures { λ r. ⌜ r ≡ primes ⌝ }
+{
+    PRIMES
+}
+
 // Whether x stands in the list.
 fn contains(list: &[u8], x: u8) -> bool
     ensures { λ r. ⌜ r ≡ member x (now (list .entry)) ⌝ }
@@ -79,7 +86,8 @@ fn contains(list: &[u8], x: u8) -> bool
 pub fn is_listed(p: u8) -> bool
     ensures { λ r. ⌜ r ≡ listed p ⌝ }
 {
-    contains(&PRIMES, p)
+    let list = listed_primes();
+    contains(&list, p)
 }
 
 // x modulo p, and 0 where p is 0.

@@ -4,7 +4,6 @@ use mathlib.Core.Path.{_≡_, refl}
 use mathlib.Core.Bool.{true, false, _&&_}
 use mathlib.Core.List.{List}
 use Prim.Native.Nat.{ℕ, _+_, _-_, _≤_, _<_}
-use native.Mathlib.Omega.{arith}
 use native.Mathlib.Numerals.{add-one}
 use borrow.Author.Needs.{needs}
 use borrow.Author.Tests.{lt-ltb, le-ltb}
@@ -16,8 +15,7 @@ use Rattle.digits.proofs.are_below.Statement.{statement}
 use Rattle.digits.proofs.are_below.Tie as tie
 
 abbrev Inv-loop : tie.InvT-loop
-Inv-loop digits base i₀ i =
-    (i ≤ length digits) × (allBelow base (drop i digits) ≡ allBelow base digits)
+Inv-loop digits base i₀ i = allBelow base (drop i digits) ≡ allBelow base digits
 
 abbrev μ-loop : tie.MeasureT-loop
 μ-loop digits base i₀ i = length digits - i
@@ -39,7 +37,7 @@ unfolding allBelow
 ended digits base i h left = rw (drop-of-length-le digits {i = i} h) at left
 
 loop-holds : tie.Need-loop-holds Inv-loop μ-loop
-loop-holds c = (omega arith, refl)
+loop-holds c = refl
 
 shared-slice-read-wide : tie.Need-shared-slice-read-wide Inv-loop μ-loop
 shared-slice-read-wide c = search needs
@@ -50,7 +48,7 @@ wide-requires c κs = search needs
 returns : tie.Need-returns Inv-loop μ-loop
 returns c =
     let l = c .before .before .before in
-    above _ _ _ _ (l .loop-test .taken) (c .before .wide .ensures .0) (l .before .loop .inv .1) (c .if1 .taken)
+    above _ _ _ _ (l .loop-test .taken) (c .before .wide .ensures .0) (l .before .loop .inv) (c .if1 .taken)
 
 add-i : tie.Need-add-i Inv-loop μ-loop
 add-i c = search needs
@@ -61,10 +59,10 @@ loop-less c = search needs
 loop-again : tie.Need-loop-again Inv-loop μ-loop
 loop-again c =
     let l = c .before .before .before in
-    (omega arith, below _ _ _ _ (l .loop-test .taken) (c .before .wide .ensures .0) (l .before .loop .inv .1) (c .if1 .left))
+    below _ _ _ _ (l .loop-test .taken) (c .before .wide .ensures .0) (l .before .loop .inv) (c .if1 .left)
 
 returns-2 : tie.Need-returns-2 Inv-loop μ-loop
-returns-2 c = ended _ _ _ (c .loop-test .left) (c .before .loop .inv .1)
+returns-2 c = ended _ _ _ (c .loop-test .left) (c .before .loop .inv)
 
 pub are-below-spec : {M : Type 1} → statement M
 are-below-spec =

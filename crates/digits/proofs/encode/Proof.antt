@@ -1,23 +1,19 @@
 -- `digits::encode` meets its contract: at each return the tests on the way pick the line of `encoding`.
 -- Assumes nothing.
-use mathlib.Core.Path.{_≡_, sym, ap, _∙_}
+use mathlib.Core.Path.{_≡_, sym, _∙_}
 use mathlib.Core.Bool.{Bool, true, false, not}
 use Prim.Native.Nat.{ℕ, _^_, _≤_, _<_}
 use native.Mathlib.Omega.{arith}
 use borrow.Author.Needs.{needs}
 use borrow.Author.Tests.{not-true, not-false, ltb-true, ltb-false}
 use lib.Dec.{ltb}
-use Rattle.answer.specs.Outcome.{Outcome}
+use Rattle.answer.proofs.Outcome.{said}
 use Rattle.field.specs.Primes.{listed}
 use Rattle.digits.specs.Number.{base}
 use Rattle.digits.proofs.Number.{base-pos}
 use Rattle.digits.proofs.Encoding.{prime-refused, none-refused, many-refused, room-refused, large-refused, encoded}
 use Rattle.digits.proofs.encode.Statement.{statement}
 use Rattle.digits.proofs.encode.Tie as tie
-
--- the answer and the lent bytes of a line of `encoding`
-said : {A : Type 0} {o line : Outcome A} → o ≡ line → (line .answer ≡ o .answer) × (line .lent ≡ o .lent)
-said e = (ap (λ o. o .answer) (sym e), ap (λ o. o .lent) (sym e))
 
 is-listed-requires : tie.Need-is-listed-requires
 is-listed-requires c κs = search needs

@@ -7,7 +7,7 @@ use native.Mathlib.Omega.{arith}
 use native.Mathlib.Nat.{mul-le-mul-right}
 use borrow.Author.Tests.{lt-ltb, le-ltb}
 use lib.Dec.{ltb}
-use Rattle.field.proofs.Flag.{ltb-same}
+use Rattle.field.proofs.Tests.{ltb-same}
 use Rattle.digits.proofs.passes.Statement.{statement}
 use Rattle.digits.proofs.passes.Tie as tie
 

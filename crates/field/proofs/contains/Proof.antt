@@ -16,7 +16,7 @@ use Rattle.field.proofs.contains.Statement.{statement}
 use Rattle.field.proofs.contains.Tie as tie
 
 abbrev Inv-loop : tie.InvT-loop
-Inv-loop list x place₀ place = (place ≤ length list) × (member x (drop place list) ≡ member x list)
+Inv-loop list x place₀ place = member x (drop place list) ≡ member x list
 
 abbrev μ-loop : tie.MeasureT-loop
 μ-loop list x place₀ place = length list - place
@@ -38,14 +38,14 @@ unfolding member
 ended list x place h left = rw (drop-of-length-le list {i = place} h) at left
 
 loop-holds : tie.Need-loop-holds Inv-loop μ-loop
-loop-holds c = (omega arith, refl)
+loop-holds c = refl
 
 shared-slice-read-if1 : tie.Need-shared-slice-read-if1 Inv-loop μ-loop
 shared-slice-read-if1 c = search needs
 
 returns : tie.Need-returns Inv-loop μ-loop
 returns c =
-    let l = c .before .before in found _ _ (l .before .loop .place) (omega arith) (l .before .loop .inv .1) (c .if1 .taken)
+    let l = c .before .before in found _ _ (l .before .loop .place) (omega arith) (l .before .loop .inv) (c .if1 .taken)
 
 add-place : tie.Need-add-place Inv-loop μ-loop
 add-place c = search needs
@@ -56,10 +56,10 @@ loop-less c = search needs
 loop-again : tie.Need-loop-again Inv-loop μ-loop
 loop-again c =
     let l = c .before .before in
-    (omega arith, passed _ _ (l .before .loop .place) (omega arith) (l .before .loop .inv .1) (c .if1 .left))
+    passed _ _ (l .before .loop .place) (omega arith) (l .before .loop .inv) (c .if1 .left)
 
 returns-2 : tie.Need-returns-2 Inv-loop μ-loop
-returns-2 c = ended _ _ (c .before .loop .place) (c .loop-test .left) (c .before .loop .inv .1)
+returns-2 c = ended _ _ (c .before .loop .place) (c .loop-test .left) (c .before .loop .inv)
 
 pub contains-spec : {M : Type 1} → statement M
 contains-spec =

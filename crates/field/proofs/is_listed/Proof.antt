@@ -1,10 +1,13 @@
--- `field::is_listed` meets its contract. This is the computed test of the array of primes: antt makes the list by trial division, and the array is that list,
--- so that its entries are prime, ascend and are all there are (`proofs/Primes.antt`).
+-- `field::is_listed` meets its contract: it searches the list of primes.
 -- Assumes nothing.
+use mathlib.Core.Path.{ap, _∙_}
 use borrow.Author.Needs.{needs}
-use Rattle.field.specs.Primes.{primes, listed}
+use Rattle.field.specs.Primes.{member, listed}
 use Rattle.field.proofs.is_listed.Statement.{statement}
 use Rattle.field.proofs.is_listed.Tie as tie
+
+listed-primes-requires : tie.Need-listed-primes-requires
+listed-primes-requires c κs = search needs
 
 slice-aggregate-contains : tie.Need-slice-aggregate-contains
 slice-aggregate-contains c = search needs
@@ -13,8 +16,9 @@ contains-requires : tie.Need-contains-requires
 contains-requires c κs = search needs
 
 returns : tie.Need-returns
-unfolding listed primes
-returns c = c .contains .ensures
+unfolding listed
+returns c = c .contains .ensures ∙ ap (member _) (c .before .before .listed-primes .ensures)
 
 pub is-listed-spec : {M : Type 1} → statement M
-is-listed-spec = tie.close (tie.spec slice-aggregate-contains contains-requires returns)
+is-listed-spec =
+    tie.close (tie.spec listed-primes-requires slice-aggregate-contains contains-requires returns)

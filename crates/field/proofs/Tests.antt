@@ -1,4 +1,4 @@
--- Tests as flags: two that both hold, two of which neither does, and two comparisons that hold together.
+-- Laws of tests: two that both hold, two of which neither does, and two comparisons that hold together.
 -- Assumes nothing.
 use mathlib.Core.Path.{_≡_, refl, sym, _∙_}
 use mathlib.Core.Bool.{Bool, true, false, _&&_, _||_, false≢true, true≢false}
