@@ -4,3 +4,8 @@ pub mod Primes
 pub mod Modular
 pub mod Sum
 pub mod Logarithm
+pub mod Euclid
+pub mod Binomial
+pub mod Fermat
+pub mod PowerSum
+pub mod Polynomials

@@ -5,7 +5,7 @@ use mathlib.Core.Path.{_≡_, refl, sym, ap, ap₂, _∙_}
 use mathlib.Core.Logic.{_↔_}
 use Prim.Native.Nat.{ℕ, zero, suc, _+_, _-_, _*_, _/_, _%_, _^_, _≤_, _<_}
 use native.Mathlib.Omega.{arith}
-use native.Mathlib.Nat.{add-mul-mod-self-right, mod-add-div', mod-mod, mod-add-mod, add-mod-mod, mod-lt, zero-mod, le-of-lt, add-zero, add-assoc, add-comm, mul-comm, pow-zero, pow-suc}
+use native.Mathlib.Nat.{add-mul-mod-self-right, mod-add-div', mod-mod, mod-add-mod, add-mod-mod, mod-lt, mod-eq-of-lt, zero-mod, le-of-lt, add-zero, add-assoc, add-comm, mul-comm, mul-zero, pow-zero, pow-suc}
 use native.Mathlib.Numerals.{sub-one}
 use Rattle.field.specs.Modular.{residue, addMod, subMod, mulMod}
 
@@ -19,6 +19,15 @@ mod-of p k l x y e =
 -- what leaves no remainder is a multiple
 pub multiple : (p x : ℕ) → x % p ≡ 0 → x ≡ x / p * p
 multiple p x h = omega (arith, mod-add-div' x p)
+
+-- the one multiple between 0 and 2p
+pub multiple-between : (p x : ℕ) → 0 < x → x < p + p → x % p ≡ 0 → x ≡ p
+multiple-between p x low high h = go (x / p) (multiple p x h)
+  where
+    go : (q : ℕ) → x ≡ q * p → x ≡ p
+    go zero e = absurd (omega arith)
+    go (suc zero) e = omega arith
+    go (suc (suc q)) e = absurd (omega arith)
 
 pub mod-mul : (a b p : ℕ) → (a % p * b) % p ≡ (a * b) % p
 mod-mul a b p = mod-of p (a / p * b) 0 _ _ (omega (arith, ap (λ (n : ℕ). n * b) (mod-add-div' a p)))
@@ -39,6 +48,19 @@ pub pow-cong : (p a b n : ℕ) → a % p ≡ b % p → (a ^ n) % p ≡ (b ^ n) %
 pow-cong p a b zero h = simp pow-zero
 pow-cong p a b (suc n) h = simp pow-suc (mul-cong p (a ^ n) (b ^ n) a b (pow-cong p a b n h) h)
 
+-- what is 0 modulo p adds nothing, and makes a product 0
+pub add-none : (p a b : ℕ) → b % p ≡ 0 → (a + b) % p ≡ a % p
+add-none p a b h = add-cong p a a b 0 refl (h ∙ sym (zero-mod p)) ∙ simp add-zero
+
+pub none-add : (p a b : ℕ) → a % p ≡ 0 → (a + b) % p ≡ b % p
+none-add p a b h = ap (λ (n : ℕ). n % p) (add-comm a b) ∙ add-none p b a h
+
+pub mul-none : (p a b : ℕ) → b % p ≡ 0 → (a * b) % p ≡ 0
+mul-none p a b h = sym (mul-mod a b p) ∙ rw h (simp (mul-zero, zero-mod))
+
+pub none-mul : (p a b : ℕ) → a % p ≡ 0 → (a * b) % p ≡ 0
+none-mul p a b h = ap (λ (n : ℕ). n % p) (mul-comm a b) ∙ mul-none p b a h
+
 -- ---- minus x is p - 1 times x
 
 pub minus-add : (p x : ℕ) → 0 < p → ((p - 1) * x + x) % p ≡ 0
@@ -52,7 +74,7 @@ minus-product (suc m) a b l h = simp sub-one (mod-of (suc m) b 1 _ _ (omega arit
 
 -- minus x, and x, added to anything
 pub add-minus : (p a x : ℕ) → 0 < p → (a + ((p - 1) * x + x)) % p ≡ a % p
-add-minus p a x h = add-cong p a a ((p - 1) * x + x) 0 refl (minus-add p x h ∙ sym (zero-mod p)) ∙ simp add-zero
+add-minus p a x h = add-none p a ((p - 1) * x + x) (minus-add p x h)
 
 -- what is added to both sides goes
 pub add-cancel : (p a b c : ℕ) → 0 < p → (a + c) % p ≡ (b + c) % p → a % p ≡ b % p
@@ -80,6 +102,9 @@ residue-is (suc m) x h = refl
 pub residue-below : (p x : ℕ) → 0 < p → residue p x < p
 residue-below p x h = rw (residue-is p x h) (mod-lt x h)
 
+pub residue-small : (p x : ℕ) → x < p → residue p x ≡ x
+residue-small p x h = residue-is p x (omega arith) ∙ mod-eq-of-lt h
+
 pub addMod-is : (p a b : ℕ) → 0 < p → addMod p a b ≡ (a + b) % p
 addMod-is p a b h = residue-is p (a + b) h
 
@@ -95,3 +120,15 @@ subMod-is p a b h =
 pub sub-add : (p a b : ℕ) → 0 < p → (subMod p a b + b) % p ≡ a % p
 sub-add p a b h =
     rw (subMod-is p a b h) (mod-add-mod _ p b ∙ ap (λ (n : ℕ). n % p) (add-assoc a _ b) ∙ add-minus p a b h)
+
+-- the difference of numbers below p, as it is
+pub sub-down : (p a b : ℕ) → b ≤ a → a < p → subMod p a b ≡ a - b
+sub-down p a b l h =
+    let some : 0 < p = omega arith in
+    residue-is p _ some ∙ simp (residue-small p b (omega arith)) (mod-of p 0 1 _ (a - b) (omega arith) ∙ mod-eq-of-lt (omega arith))
+
+-- and where it passes 0
+pub sub-up : (p a b : ℕ) → a < b → b < p → subMod p a b ≡ a + (p - b)
+sub-up p a b l h =
+    let some : 0 < p = omega arith in
+    residue-is p _ some ∙ simp (residue-small p b h) (mod-eq-of-lt (omega arith))

@@ -1,10 +1,11 @@
 -- Laws of tests: two that both hold, two of which neither does, and two comparisons that hold together.
 -- Assumes nothing.
 use mathlib.Core.Path.{_≡_, refl, sym, _∙_}
+use mathlib.Core.Logic.{_↔_}
 use mathlib.Core.Bool.{Bool, true, false, _&&_, _||_, false≢true, true≢false}
 use Prim.Native.Nat.{ℕ, _≤_, _<_}
-use borrow.Author.Tests.{ltb-true, ltb-false, lt-ltb, le-ltb}
-use lib.Dec.{ltb}
+use borrow.Author.Tests.{ltb-true, ltb-false, lt-ltb, le-ltb, eqb-true, eqb-false, eq-eqb, ne-eqb}
+use lib.Dec.{ltb, eqb}
 
 pub both : (a b : Bool) → (a && b) ≡ true → (a ≡ true) × (b ≡ true)
 both true b t = (refl, t)
@@ -20,3 +21,10 @@ ltb-same a b c d less more = go (ltb a b) refl
     go : (t : Bool) → ltb a b ≡ t → ltb a b ≡ ltb c d
     go true e = e ∙ sym (lt-ltb c d (less (ltb-true a b e)))
     go false e = e ∙ sym (le-ltb c d (more (ltb-false a b e)))
+
+pub eqb-same : (a b c d : ℕ) → (a ≡ b) ↔ (c ≡ d) → eqb a b ≡ eqb c d
+eqb-same a b c d h = go (eqb a b) refl
+  where
+    go : (t : Bool) → eqb a b ≡ t → eqb a b ≡ eqb c d
+    go true e = e ∙ sym (eq-eqb c d (h .0 (eqb-true a b e)))
+    go false e = e ∙ sym (ne-eqb c d (λ q. eqb-false a b e (h .1 q)))
