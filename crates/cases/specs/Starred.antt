@@ -3,6 +3,7 @@ use Prim.Native.Nat.{ℕ}
 use mathlib.Core.List.{List, [], _∷_}
 use lib.ListN.{replicate}
 use Rattle.answer.specs.Outcome.{Answer, refused, accepted, Outcome}
+use Rattle.field.specs.Polynomials.{orderConstants}
 use Rattle.digits.specs.Encoding.{encoding}
 use Rattle.digits.specs.Decoding.{decoding}
 
@@ -36,8 +37,11 @@ decode p digits = single (decoding p digits)
 
 unfoldable pub starred : List Case
 starred =
+    -- "p=5 order constants 4, 3, 3; p=7: 3, 1, 6, 4."
+    row (accepted (orderConstants 5)) (accepted (4 ∷ 3 ∷ 3 ∷ []))
+    ∷ row (accepted (orderConstants 7)) (accepted (3 ∷ 1 ∷ 6 ∷ 4 ∷ []))
     -- "p=5, n=2: 8 is (2,2); 9 gives 22; digit 3 gives 23."
-    row (encode 5 2 8) (accepted (2 ∷ 2 ∷ []))
+    ∷ row (encode 5 2 8) (accepted (2 ∷ 2 ∷ []))
     ∷ row (decode 5 (2 ∷ 2 ∷ [])) (accepted (8 ∷ []))
     ∷ row (encode 5 2 9) (refused 22)
     ∷ row (decode 5 (0 ∷ 3 ∷ [])) (refused 23)

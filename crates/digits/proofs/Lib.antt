@@ -1,5 +1,6 @@
 -- Laws that other crates cite.
 pub mod Number
+pub mod Comparing
 pub mod Encoding
 pub mod Decoding
 pub mod Promises

@@ -3,7 +3,7 @@
 -- Assumes nothing.
 use mathlib.Core.Path.{_≡_, refl, ap, ap₂, _∙_}
 use mathlib.Core.Bool.{true}
-use mathlib.Core.List.{List, [], _∷_}
+use mathlib.Core.List.{List, [], _∷_, _++_}
 use Prim.Native.Nat.{ℕ, zero, suc, _+_, _*_, _/_, _%_, _^_, _≤_, _<_}
 use native.Mathlib.Omega.{arith}
 use native.Mathlib.Nat.{le-refl, mod-lt, mod-add-div, pow-zero, pow-suc, pow-succ', mul-one, mul-le-mul-left, div-lt-iff-lt-mul, add-mul-mod-self-left, add-mul-div-left, mod-eq-of-lt, div-eq-of-lt, zero-add, le-mul-of-pos-right}
@@ -35,6 +35,13 @@ number-cons B d ds =
     ∙ ap₂ _+_ (simp (pow-zero, mul-one))
     (sum-same (length ds) _ _ (λ j l. omega (arith, ap (λ (t : ℕ). getD ds j 0 * t) (pow-succ' B j)))
     ∙ sum-mul (length ds) B (λ j. getD ds j 0 * B ^ j))
+
+-- low digits, and B^(their count) times the high ones
+pub number-append : (B : ℕ) (low high : List ℕ) → number B (low ++ high) ≡ number B low + B ^ length low * number B high
+number-append B [] high = omega (arith, number-nil B, ap (λ (t : ℕ). t * number B high) (pow-zero B))
+number-append B (d ∷ low) high =
+    number-cons B d (low ++ high)
+    ∙ omega (arith, number-cons B d low, ap (λ (t : ℕ). B * t) (number-append B low high), ap (λ (t : ℕ). t * number B high) (pow-succ' B (length low)))
 
 -- the number of the higher digits is no larger
 pub number-drop : (B : ℕ) → 0 < B → (ds : List ℕ) (i : ℕ) → number B (drop i ds) ≤ number B ds

@@ -46,8 +46,19 @@ binomial (suc n) a =
     let old : sum (suc n) f + choose n (suc n) * a ^ suc n ≡ 1 * a ^ 0 + sum (suc n) g = sum-shift (suc n) f in
     let over : choose n (suc n) * a ^ suc n ≡ 0 * a ^ suc n = ap (λ (t : ℕ). t * a ^ suc n) (choose-over n (suc n) (omega arith)) in
     let pascal : sum (suc n) (λ k. choose (suc n) (suc k) * a ^ suc k) ≡ sum (suc n) (λ k. a * f k + g k)
-          = sum-same (suc n) _ _ (λ k l. omega (arith, ap (λ (t : ℕ). choose n k * t) (pow-succ' a k))) in
+    = sum-same (suc n) _ _ (λ k l. omega (arith, ap (λ (t : ℕ). choose n k * t) (pow-succ' a k))) in
     let new : sum (suc (suc n)) (λ k. choose (suc n) k * a ^ k) ≡ 1 * a ^ 0 + sum (suc n) (λ k. choose (suc n) (suc k) * a ^ suc k)
-          = sum-shift (suc n) (λ k. choose (suc n) k * a ^ k) in
-    omega (arith, new, pascal, sum-add (suc n) (λ k. a * f k) g, sum-mul (suc n) a f, old, over,
-      binomial n a, ap (λ (t : ℕ). a * t) (binomial n a), pow-succ' (suc a) n, pow-zero a)
+    = sum-shift (suc n) (λ k. choose (suc n) k * a ^ k) in
+    omega (
+      arith,
+      new,
+      pascal,
+      sum-add (suc n) (λ k. a * f k) g,
+      sum-mul (suc n) a f,
+      old,
+      over,
+      binomial n a,
+      ap (λ (t : ℕ). a * t) (binomial n a),
+      pow-succ' (suc a) n,
+      pow-zero a,
+    )

@@ -2,7 +2,7 @@
 -- Let p divide a·b, with 0 < a < p. Then p divides (p mod a)·b too, and p mod a is smaller than a and not 0, as p has no divisor from 2 on.
 -- So the first factor falls to 1.
 -- Assumes nothing.
-use mathlib.Core.Path.{_≡_, sym, ap, _∙_}
+use mathlib.Core.Path.{_≡_, ap, _∙_}
 use mathlib.Core.Logic.{_≢_, _⊎_, inl, inr}
 use Prim.Native.Nat.{ℕ, zero, suc, _+_, _-_, _*_, _/_, _%_, _≤_, _<_}
 use native.Mathlib.Omega.{arith}
@@ -10,7 +10,7 @@ use native.Mathlib.Nat.{mod-add-div', mod-lt, zero-mod, one-mul}
 use native.Mathlib.Decide.{ℕ-discrete}
 use Rattle.field.specs.Primes.{Prime}
 use Rattle.field.specs.Promises.{Euclid, Cancel}
-use Rattle.field.proofs.Modular.{mod-of, multiple, mod-mul, add-cong, minus-zero}
+use Rattle.field.proofs.Modular.{mod-of, multiple, mod-mul, minus-zero}
 
 -- the first argument bounds a, and falls with it
 descend : (most p a b : ℕ) → Prime p → a ≤ most → 0 < a → a < p → (a * b) % p ≡ 0 → b % p ≡ 0

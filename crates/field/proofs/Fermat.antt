@@ -4,7 +4,7 @@
 use mathlib.Core.Path.{_≡_, sym, ap, _∙_}
 use Prim.Native.Nat.{ℕ, zero, suc, _+_, _*_, _/_, _%_, _^_, _<_}
 use native.Mathlib.Omega.{arith}
-use native.Mathlib.Nat.{mod-eq-of-lt, mul-mod-right, suc-mod, pow-zero, pow-succ', zero-mod, zero-mul, mul-one}
+use native.Mathlib.Nat.{mod-eq-of-lt, mul-mod-right, suc-mod, pow-zero, pow-succ', zero-mul, mul-one}
 use native.Mathlib.Numerals.{sub-one}
 use Rattle.field.specs.Sum.{sum}
 use Rattle.field.specs.Primes.{Prime}
@@ -28,7 +28,7 @@ pow-next m a prime =
     let term : ℕ → ℕ = λ k. choose p k * a ^ k in
     let middle : ℕ = sum m (λ k. term (suc k)) in
     let none : middle % p ≡ 0
-          = sum-none p m (λ k. term (suc k)) (λ k l. none-mul p (choose p (suc k)) (a ^ suc k) (inner m k prime l)) in
+    = sum-none p m (λ k. term (suc k)) (λ k l. none-mul p (choose p (suc k)) (a ^ suc k) (inner m k prime l)) in
     let first : sum (suc m) term ≡ 1 * a ^ 0 + middle = sum-shift m term in
     let all : suc a ^ p ≡ sum (suc m) term + choose p p * a ^ p = binomial p a in
     let last : choose p p * a ^ p ≡ 1 * a ^ p = ap (λ (t : ℕ). t * a ^ p) (choose-self p) in

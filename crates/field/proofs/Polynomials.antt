@@ -6,8 +6,7 @@
 -- Assumes nothing.
 use mathlib.Core.Path.{_≡_, refl, sym, ap, ap₂, _∙_}
 use mathlib.Core.Logic.{_≢_}
-use mathlib.Core.Bool.{Bool, true, false}
-use mathlib.Core.List.{List, [], _∷_, _++_, map, map-append}
+use mathlib.Core.List.{List, [], _∷_, map, map-append}
 use Prim.Native.Nat.{ℕ, zero, suc, _+_, _-_, _*_, _/_, _%_, _^_, _≤_, _<_}
 use native.Mathlib.Omega.{arith}
 use native.Mathlib.Nat.{mod-eq-of-lt, zero-mod, sub-self, sub-zero, pow-zero, pow-succ', mul-one, one-mul, mul-comm, mod-self, add-zero, mul-zero, zero-mul}
@@ -19,7 +18,7 @@ use lib.Pow.{pow-add}
 use Rattle.field.specs.Sum.{sum, total}
 use Rattle.field.specs.Bit.{bit}
 use Rattle.field.specs.Primes.{Prime}
-use Rattle.field.specs.Polynomials.{zeroTest, everySecond, orderExponents, orderConstant, orderPolynomial}
+use Rattle.field.specs.Polynomials.{everySecond, orderExponents, orderConstant, orderPolynomial}
 use Rattle.field.specs.Promises.{ZeroTest, OrderTest}
 use Rattle.field.proofs.Modular.{mod-of, multiple, multiple-between, mod-mul, add-cong, mul-cong, pow-cong, mul-none, none-mul, add-cancel, none-add, minus-add, minus-zero, subMod-is}
 use Rattle.field.proofs.Sum.{sum-shift, sum-mul, sum-same, sum-const, sum-swap, sum-cong, sum-none, sum-single, total-append}
@@ -38,19 +37,19 @@ telescope z w n =
     let term : ℕ → ℕ = λ i. z ^ i * w ^ (n - i) in
     let up : sum (suc n) term ≡ z ^ 0 * w ^ (n - 0) + sum n (λ i. term (suc i)) = sum-shift n term in
     let rise : sum n (λ i. term (suc i)) ≡ z * geometric z w n
-          = sum-same n _ _ (λ i l. omega (arith, ap (λ (t : ℕ). t * w ^ (n - suc i)) (pow-succ' z i))) ∙ sum-mul n z _ in
+    = sum-same n _ _ (λ i l. omega (arith, ap (λ (t : ℕ). t * w ^ (n - suc i)) (pow-succ' z i))) ∙ sum-mul n z _ in
     let fall : sum n term ≡ w * geometric z w n
-          = sum-same n _ _ (λ i l. let e : n - i ≡ suc (n - suc i) = omega arith in rw (e, pow-succ') (omega arith)) ∙ sum-mul n w _ in
+    = sum-same n _ _ (λ i l. let e : n - i ≡ suc (n - suc i) = omega arith in rw (e, pow-succ') (omega arith)) ∙ sum-mul n w _ in
     let ends : (z ^ 0 * w ^ (n - 0) ≡ w ^ n) × (z ^ n * w ^ (n - n) ≡ z ^ n)
-          = (simp (pow-zero, sub-zero, one-mul), simp (sub-self, pow-zero, mul-one)) in
+    = (simp (pow-zero, sub-zero, one-mul), simp (sub-self, pow-zero, mul-one)) in
     omega (arith, up, rise, fall)
 
 geometric-same : (w n : ℕ) → w * geometric w w n ≡ n * w ^ n
 geometric-same w n =
     sym (sum-mul n w _)
     ∙ sum-same n _ _ (λ i l.
-      let e : suc i + (n - suc i) ≡ n = omega arith in
-      omega (arith, ap (λ (t : ℕ). t * w ^ (n - suc i)) (pow-succ' w i), sym (pow-add w (suc i) (n - suc i)) ∙ ap (λ (t : ℕ). w ^ t) e))
+    let e : suc i + (n - suc i) ≡ n = omega arith in
+    omega (arith, ap (λ (t : ℕ). t * w ^ (n - suc i)) (pow-succ' w i), sym (pow-add w (suc i) (n - suc i)) ∙ ap (λ (t : ℕ). w ^ t) e))
     ∙ sum-const n (w ^ n)
 
 geometric-cong : (p z v w n : ℕ) → v % p ≡ w % p → geometric z v n % p ≡ geometric z w n % p
@@ -80,8 +79,8 @@ paired h z b = sum h (λ k. z ^ suc (2 * k) * b ^ (2 * h - suc (2 * k)))
 paired-geometric : (h z b : ℕ) → paired h z b ≡ z * b * geometric (z * z) (b * b) h
 paired-geometric h z b =
     sum-same h _ _ (λ k l.
-      let e : 2 * h - suc (2 * k) ≡ suc (2 * (h - suc k)) = omega arith in
-      rw (e, pow-succ' z (2 * k), pow-succ' b (2 * (h - suc k)), pow-square z k, pow-square b (h - suc k)) (omega arith))
+    let e : 2 * h - suc (2 * k) ≡ suc (2 * (h - suc k)) = omega arith in
+    rw (e, pow-succ' z (2 * k), pow-succ' b (2 * (h - suc k)), pow-square z k, pow-square b (h - suc k)) (omega arith))
     ∙ sum-mul h (z * b) _
 
 module _ (p h : ℕ) (prime : Prime p) (whole : p ≡ suc (2 * h)) where
@@ -108,10 +107,10 @@ module _ (p h : ℕ) (prime : Prime p) (whole : p ≡ suc (2 * h)) where
       let q : ℕ = (z + b) / p in
       let sum-is : z + b ≡ q * p = multiple p (z + b) e in
       let squares : (b * b) % p ≡ (z * z) % p
-            = mod-of p (z * q) (b * q) _ _ (omega (arith, ap (λ (t : ℕ). z * t) sum-is, ap (λ (t : ℕ). b * t) sum-is)) in
+      = mod-of p (z * q) (b * q) _ _ (omega (arith, ap (λ (t : ℕ). z * t) sum-is, ap (λ (t : ℕ). b * t) sum-is)) in
       let G : ℕ = geometric (z * z) (z * z) h in
       let b-part : paired h z b % p ≡ (z * b * G) % p
-            = ap (λ (t : ℕ). t % p) (paired-geometric h z b) ∙ mul-cong p (z * b) (z * b) _ G refl (geometric-cong p (z * z) (b * b) (z * z) h squares) in
+      = ap (λ (t : ℕ). t % p) (paired-geometric h z b) ∙ mul-cong p (z * b) (z * b) _ G refl (geometric-cong p (z * z) (b * b) (z * z) h squares) in
       let z-part : (z * z * G) % p ≡ h % p = ap (λ (t : ℕ). t % p) (sym (paired-geometric h z z)) ∙ same z n in
       let both : (z * b * G + z * z * G) % p ≡ 0 = ap (λ (t : ℕ). t % p) (omega arith) ∙ none-mul p (z + b) (z * G) e in
       add-cancel p _ _ h some (add-cong p _ (z * b * G) h (z * z * G) b-part (sym z-part) ∙ both ∙ sym (minus-add p h some))
@@ -120,16 +119,16 @@ module _ (p h : ℕ) (prime : Prime p) (whole : p ≡ suc (2 * h)) where
   other z b nz nb differ n =
       let G : ℕ = geometric (z * z) (b * b) h in
       let squares : (z * z * G) % p ≡ (b * b * G) % p
-            = add-cancel p _ _ 1 some
-              (add-cong p (z * z * G) (z * z * G) 1 ((b * b) ^ h) refl (one ∙ sym (square-one b nb))
-              ∙ ap (λ (t : ℕ). t % p) (telescope (z * z) (b * b) h ∙ omega arith)
-              ∙ add-cong p (b * b * G) (b * b * G) ((z * z) ^ h) 1 refl (square-one z nz ∙ sym one)) in
+      = add-cancel p _ _ 1 some
+      (add-cong p (z * z * G) (z * z * G) 1 ((b * b) ^ h) refl (one ∙ sym (square-one b nb))
+      ∙ ap (λ (t : ℕ). t % p) (telescope (z * z) (b * b) h ∙ omega arith)
+      ∙ add-cong p (b * b * G) (b * b * G) ((z * z) ^ h) 1 refl (square-one z nz ∙ sym one)) in
       let factors : ((z + b) * (z * G)) % p ≡ ((z + b) * (b * G)) % p
-            = ap (λ (t : ℕ). t % p) (omega arith)
-              ∙ add-cong p (z * z * G) (b * b * G) (z * b * G) (z * b * G) squares refl
-              ∙ ap (λ (t : ℕ). t % p) (omega arith) in
+      = ap (λ (t : ℕ). t % p) (omega arith)
+      ∙ add-cong p (z * z * G) (b * b * G) (z * b * G) (z * b * G) squares refl
+      ∙ ap (λ (t : ℕ). t % p) (omega arith) in
       let left : (G * z) % p ≡ (G * b) % p
-            = ap (λ (t : ℕ). t % p) (mul-comm G z) ∙ cancel p (z + b) (z * G) (b * G) prime n factors ∙ ap (λ (t : ℕ). t % p) (mul-comm b G) in
+      = ap (λ (t : ℕ). t % p) (mul-comm G z) ∙ cancel p (z + b) (z * G) (b * G) prime n factors ∙ ap (λ (t : ℕ). t % p) (mul-comm b G) in
       ap (λ (t : ℕ). t % p) (paired-geometric h z b) ∙ mul-none p (z * b) G (go G (ℕ-discrete (G % p) 0) left)
     where
       go : (G : ℕ) → Dec (G % p ≡ 0) → (G * z) % p ≡ (G * b) % p → G % p ≡ 0
@@ -144,9 +143,9 @@ module _ (p h : ℕ) (prime : Prime p) (whole : p ≡ suc (2 * h)) where
       sum-single p h (z - 1) h _ (omega arith)
       (let e : suc (z - 1) ≡ z = omega arith in rw e (same z (omega arith)))
       (λ b k n.
-        let b-small : suc b % p ≡ suc b = mod-eq-of-lt (omega arith) in
-        let sum-small : (z + suc b) % p ≡ z + suc b = mod-eq-of-lt (omega arith) in
-        other z (suc b) (omega arith) (omega arith) (omega arith) (omega arith))
+      let b-small : suc b % p ≡ suc b = mod-eq-of-lt (omega arith) in
+      let sum-small : (z + suc b) % p ≡ z + suc b = mod-eq-of-lt (omega arith) in
+      other z (suc b) (omega arith) (omega arith) (omega arith) (omega arith))
 
   odd-high : (z : ℕ) → h < z → z < p → sum h (λ b. paired h z (suc b)) % p ≡ ((p - 1) * h) % p
   odd-high z g l =
@@ -154,9 +153,9 @@ module _ (p h : ℕ) (prime : Prime p) (whole : p ≡ suc (2 * h)) where
       sum-single p h (p - suc z) ((p - 1) * h) _ (omega arith)
       (opposite z (suc (p - suc z)) (omega arith) (let e : z + suc (p - suc z) ≡ p = omega arith in rw e (mod-self p)))
       (λ b k n.
-        let b-small : suc b % p ≡ suc b = mod-eq-of-lt (omega arith) in
-        other z (suc b) (omega arith) (omega arith) (omega arith)
-        (λ e. omega (arith, multiple-between p (z + suc b) (omega arith) (omega arith) e)))
+      let b-small : suc b % p ≡ suc b = mod-eq-of-lt (omega arith) in
+      other z (suc b) (omega arith) (omega arith) (omega arith)
+      (λ e. omega (arith, multiple-between p (z + suc b) (omega arith) (omega arith) e)))
 
   -- ---- the constants
 
@@ -174,7 +173,7 @@ module _ (p h : ℕ) (prime : Prime p) (whole : p ≡ suc (2 * h)) where
   constant-top = rw (eq-eqb (p - 1) (p - 1) refl, orderConstant) (omega arith)
 
   term-odd : (z k : ℕ) → k < h
-    → (orderConstant p (1 + 2 * k) * z ^ (1 + 2 * k)) % p ≡ sum h (λ b. z ^ suc (2 * k) * suc b ^ (2 * h - suc (2 * k))) % p
+      → (orderConstant p (1 + 2 * k) * z ^ (1 + 2 * k)) % p ≡ sum h (λ b. z ^ suc (2 * k) * suc b ^ (2 * h - suc (2 * k))) % p
   term-odd z k l =
       rw (constant-odd k l)
       (mod-mul _ (z ^ (1 + 2 * k)) p
@@ -187,12 +186,12 @@ module _ (p h : ℕ) (prime : Prime p) (whole : p ≡ suc (2 * h)) where
       let odds : List ℕ = everySecond ((p - 1) / 2) 1 in
       let top : List ℕ = (p - 1) ∷ [] in
       let sides : orderPolynomial p z ≡ sum h (λ k. term (1 + 2 * k)) + term (p - 1)
-            = ap total (map-append term odds top) ∙ total-append (map term odds) (map term top)
-              ∙ ap₂ _+_ (total-second ((p - 1) / 2) 1 term ∙ ap (λ (n : ℕ). sum n (λ k. term (1 + 2 * k))) half) (add-zero (term (p - 1))) in
+      = ap total (map-append term odds top) ∙ total-append (map term odds) (map term top)
+      ∙ ap₂ _+_ (total-second ((p - 1) / 2) 1 term ∙ ap (λ (n : ℕ). sum n (λ k. term (1 + 2 * k))) half) (add-zero (term (p - 1))) in
       ap (λ (t : ℕ). t % p) sides
       ∙ add-cong p _ _ _ _
-        (sum-cong p h _ _ (term-odd z) ∙ ap (λ (t : ℕ). t % p) (sum-swap h h (λ k b. z ^ suc (2 * k) * suc b ^ (2 * h - suc (2 * k)))))
-        (rw constant-top)
+      (sum-cong p h _ _ (term-odd z) ∙ ap (λ (t : ℕ). t % p) (sum-swap h h (λ k b. z ^ suc (2 * k) * suc b ^ (2 * h - suc (2 * k)))))
+      (rw constant-top)
 
   at-zero : orderPolynomial p 0 % p ≡ 0
   at-zero =

@@ -2,10 +2,10 @@
 -- For any n, n^(k+1) is the sum over x < n of (x+1)^(k+1) - x^(k+1), so by the binomial theorem the sum over j ≤ k of C(k+1, j) times the sum of x^j.
 -- At n = p the left side is 0, and so are the sums with j < k by induction; what is left is (k+1) times the sum of x^k, and k + 1 < p goes.
 -- Assumes nothing.
-use mathlib.Core.Path.{_≡_, refl, sym, ap, _∙_}
+use mathlib.Core.Path.{_≡_, sym, ap, _∙_}
 use Prim.Native.Nat.{ℕ, zero, suc, _+_, _*_, _%_, _^_, _≤_, _<_}
 use native.Mathlib.Omega.{arith}
-use native.Mathlib.Nat.{mod-eq-of-lt, mul-mod-right, zero-mod, pow-zero, pow-succ', zero-mul}
+use native.Mathlib.Nat.{mod-eq-of-lt, mul-mod-right, pow-succ', zero-mul}
 use native.Mathlib.Decide.{ℕ-discrete}
 use Rattle.field.specs.Sum.{sum}
 use Rattle.field.specs.Primes.{Prime}
@@ -36,9 +36,9 @@ unfolding sum
 next p k prime h lower =
     let term : ℕ → ℕ = λ j. choose (suc k) j * powers p j in
     let none : sum k term % p ≡ 0
-          = sum-none p k term (λ j l. mul-none p (choose (suc k) j) (powers p j) (lower j l)) in
+    = sum-none p k term (λ j l. mul-none p (choose (suc k) j) (powers p j) (lower j l)) in
     let all : (sum k term + term k) % p ≡ 0
-          = ap (λ (t : ℕ). t % p) (sym (by-powers p k) ∙ pow-succ' p k) ∙ mul-mod-right p (p ^ k) in
+    = ap (λ (t : ℕ). t % p) (sym (by-powers p k) ∙ pow-succ' p k) ∙ mul-mod-right p (p ^ k) in
     let small : suc k % p ≡ suc k = mod-eq-of-lt h in
     other-factor p (suc k) (powers p k) prime (omega arith)
     (rw (← choose-but-one k) (sym (none-add p (sum k term) (term k) none) ∙ all))
