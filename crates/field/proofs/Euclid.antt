@@ -1,16 +1,16 @@
 -- Euclid's lemma and cancellation, for every prime p.
--- Let p divide a·b, with 0 < a < p. Then p divides (p mod a)·b too, and p mod a is smaller than a and not 0, as p has no divisor from 2 on.
+-- Let p divide a·b, with 0 < a < p. Then p divides (p mod a)·b too, and p mod a is smaller than a and not 0, as p has no divisor from 2 to p - 1.
 -- So the first factor falls to 1.
 -- Assumes nothing.
-use mathlib.Core.Path.{_≡_, ap, _∙_}
+use mathlib.Core.Path.{_≡_, refl, ap, _∙_}
 use mathlib.Core.Logic.{_≢_, _⊎_, inl, inr}
 use Prim.Native.Nat.{ℕ, zero, suc, _+_, _-_, _*_, _/_, _%_, _≤_, _<_}
 use native.Mathlib.Omega.{arith}
-use native.Mathlib.Nat.{mod-add-div', mod-lt, zero-mod, one-mul}
+use native.Mathlib.Nat.{mod-add-div', mod-lt, zero-mod, one-mul, mul-comm}
 use native.Mathlib.Decide.{ℕ-discrete}
 use Rattle.field.specs.Primes.{Prime}
 use Rattle.field.specs.Promises.{Euclid, Cancel}
-use Rattle.field.proofs.Modular.{mod-of, multiple, mod-mul, minus-zero}
+use Rattle.field.proofs.Modular.{mod-same, mod-of, multiple, mod-mul, add-cong, minus-zero}
 
 -- the first argument bounds a, and falls with it
 descend : (most p a b : ℕ) → Prime p → a ≤ most → 0 < a → a < p → (a * b) % p ≡ 0 → b % p ≡ 0
@@ -25,7 +25,7 @@ descend (suc most) p (suc (suc c)) b prime l s g h =
     (omega (arith, ap (λ (t : ℕ). t * b) (mod-add-div' p a), ap (λ (t : ℕ). p / a * t) (multiple p (a * b) h)))
     ∙ zero-mod p)
 
--- where the first factor is not divided, the second is
+-- where p does not divide the first factor, it divides the second
 pub other-factor : (p a b : ℕ) → Prime p → a % p ≢ 0 → (a * b) % p ≡ 0 → b % p ≡ 0
 other-factor p a b prime n h =
     let small : a % p < p = mod-lt a (omega (arith, prime .two)) in
@@ -38,10 +38,26 @@ euclid p a b prime h = go (ℕ-discrete (a % p) 0)
     go (yes e) = inl e
     go (no n) = inr (other-factor p a b prime n h)
 
--- the difference is the other factor
+-- the second factor is the difference
 pub cancel : Cancel
 cancel p a x y prime n h =
     let some : 0 < p = omega (arith, prime .two) in
     minus-zero p x y some .0
     (other-factor p a (x + (p - 1) * y) prime n
-    (ap (λ (t : ℕ). t % p) (omega arith) ∙ minus-zero p (a * x) (a * y) some .1 h))
+    (mod-same p (omega arith) ∙ minus-zero p (a * x) (a * y) some .1 h))
+
+-- two numbers that are neither equal nor opposite have different squares: a² c = b² c only where c is 0
+pub different-squares : (p a b c : ℕ) → Prime p → a % p ≢ b % p → (a + b) % p ≢ 0 → (a * a * c) % p ≡ (b * b * c) % p → c % p ≡ 0
+different-squares p a b c prime differ opposed h = go (ℕ-discrete (c % p) 0)
+  where
+    factors : ((a + b) * (a * c)) % p ≡ ((a + b) * (b * c)) % p
+    factors =
+        mod-same p (omega arith)
+        ∙ add-cong p (a * a * c) (b * b * c) (a * b * c) (a * b * c) h refl
+        ∙ mod-same p (omega arith)
+
+    go : Dec (c % p ≡ 0) → c % p ≡ 0
+    go (yes e) = e
+    go (no n) =
+        absurd (differ (cancel p c a b prime n
+        (mod-same p (mul-comm c a) ∙ cancel p (a + b) (a * c) (b * c) prime opposed factors ∙ mod-same p (mul-comm b c))))

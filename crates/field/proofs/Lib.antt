@@ -8,4 +8,5 @@ pub mod Euclid
 pub mod Binomial
 pub mod Fermat
 pub mod PowerSum
+pub mod Geometric
 pub mod Polynomials

@@ -5,16 +5,20 @@ use mathlib.Core.Path.{_≡_, refl, sym, ap, ap₂, _∙_}
 use mathlib.Core.Logic.{_↔_}
 use Prim.Native.Nat.{ℕ, zero, suc, _+_, _-_, _*_, _/_, _%_, _^_, _≤_, _<_}
 use native.Mathlib.Omega.{arith}
-use native.Mathlib.Nat.{add-mul-mod-self-right, mod-add-div', mod-mod, mod-add-mod, add-mod-mod, mod-lt, mod-eq-of-lt, zero-mod, le-of-lt, add-zero, add-assoc, add-comm, mul-comm, mul-zero, pow-zero, pow-suc}
+use native.Mathlib.Nat.{add-mul-mod-self-right, mod-add-div', mod-mod, mod-add-mod, add-mod-mod, mod-lt, mod-eq-of-lt, zero-mod, le-of-lt, add-zero, add-assoc, add-comm, mul-comm, mul-zero, mul-one, pow-zero, pow-suc}
 use native.Mathlib.Numerals.{sub-one}
 use Rattle.field.specs.Modular.{residue, addMod, subMod, mulMod}
 
 -- ---- congruence
 
+-- equal numbers have equal remainders
+pub mod-same : (p : ℕ) {x y : ℕ} → x ≡ y → x % p ≡ y % p
+mod-same p e = ap (λ (n : ℕ). n % p) e
+
 -- equal up to multiples of p
 pub mod-of : (p k l x y : ℕ) → x + k * p ≡ y + l * p → x % p ≡ y % p
 mod-of p k l x y e =
-    sym (add-mul-mod-self-right x k p) ∙ ap (λ (n : ℕ). n % p) e ∙ add-mul-mod-self-right y l p
+    sym (add-mul-mod-self-right x k p) ∙ mod-same p e ∙ add-mul-mod-self-right y l p
 
 -- what leaves no remainder is a multiple
 pub multiple : (p x : ℕ) → x % p ≡ 0 → x ≡ x / p * p
@@ -33,7 +37,7 @@ pub mod-mul : (a b p : ℕ) → (a % p * b) % p ≡ (a * b) % p
 mod-mul a b p = mod-of p (a / p * b) 0 _ _ (omega (arith, ap (λ (n : ℕ). n * b) (mod-add-div' a p)))
 
 pub mul-mod : (a b p : ℕ) → (a * (b % p)) % p ≡ (a * b) % p
-mul-mod a b p = ap (λ (n : ℕ). n % p) (mul-comm a (b % p)) ∙ mod-mul b a p ∙ ap (λ (n : ℕ). n % p) (mul-comm b a)
+mul-mod a b p = mod-same p (mul-comm a (b % p)) ∙ mod-mul b a p ∙ mod-same p (mul-comm b a)
 
 -- inner remainders go
 pub ruleset strip = (mod-mod, mod-add-mod, add-mod-mod, mod-mul, mul-mod)
@@ -53,13 +57,23 @@ pub add-none : (p a b : ℕ) → b % p ≡ 0 → (a + b) % p ≡ a % p
 add-none p a b h = add-cong p a a b 0 refl (h ∙ sym (zero-mod p)) ∙ simp add-zero
 
 pub none-add : (p a b : ℕ) → a % p ≡ 0 → (a + b) % p ≡ b % p
-none-add p a b h = ap (λ (n : ℕ). n % p) (add-comm a b) ∙ add-none p b a h
+none-add p a b h = mod-same p (add-comm a b) ∙ add-none p b a h
 
 pub mul-none : (p a b : ℕ) → b % p ≡ 0 → (a * b) % p ≡ 0
 mul-none p a b h = sym (mul-mod a b p) ∙ rw h (simp (mul-zero, zero-mod))
 
 pub none-mul : (p a b : ℕ) → a % p ≡ 0 → (a * b) % p ≡ 0
-none-mul p a b h = ap (λ (n : ℕ). n % p) (mul-comm a b) ∙ mul-none p b a h
+none-mul p a b h = mod-same p (mul-comm a b) ∙ mul-none p b a h
+
+-- and what is 1 changes no product
+pub mul-unit : (p a b : ℕ) → b % p ≡ 1 → (a * b) % p ≡ a % p
+mul-unit p a b h = sym (mul-mod a b p) ∙ rw h (simp mul-one)
+
+-- numbers that add up to 0 have the same square
+pub opposite-squares : (p a b : ℕ) → (a + b) % p ≡ 0 → (b * b) % p ≡ (a * a) % p
+opposite-squares p a b h =
+    let e = multiple p (a + b) h in
+    mod-of p (a * ((a + b) / p)) (b * ((a + b) / p)) _ _ (omega (arith, ap (λ (n : ℕ). a * n) e, ap (λ (n : ℕ). b * n) e))
 
 -- ---- minus x is p - 1 times x
 
@@ -81,7 +95,11 @@ pub add-cancel : (p a b c : ℕ) → 0 < p → (a + c) % p ≡ (b + c) % p → a
 add-cancel p a b c h e = sym (back a) ∙ add-cong p (a + c) (b + c) _ _ e refl ∙ back b
   where
     back : (x : ℕ) → (x + c + (p - 1) * c) % p ≡ x % p
-    back x = ap (λ (n : ℕ). n % p) (omega arith) ∙ add-minus p x c h
+    back x = mod-same p (omega arith) ∙ add-minus p x c h
+
+-- what adds up to 0 with c is minus c
+pub minus-of : (p a c : ℕ) → 0 < p → (a + c) % p ≡ 0 → a % p ≡ ((p - 1) * c) % p
+minus-of p a c h e = add-cancel p a ((p - 1) * c) c h (e ∙ sym (minus-add p c h))
 
 -- two numbers are congruent exactly where their difference leaves no remainder
 pub minus-zero : (p a b : ℕ) → 0 < p → ((a + (p - 1) * b) % p ≡ 0) ↔ (a % p ≡ b % p)
@@ -91,7 +109,7 @@ minus-zero p a b h = (
 )
   where
     none : (x : ℕ) → (x + (p - 1) * x) % p ≡ 0
-    none x = ap (λ (n : ℕ). n % p) (add-comm x _) ∙ minus-add p x h
+    none x = mod-same p (add-comm x _) ∙ minus-add p x h
 
 -- ---- the operations
 
@@ -119,7 +137,7 @@ subMod-is p a b h =
 -- subMod is subtraction: what it gives, added to b, is a
 pub sub-add : (p a b : ℕ) → 0 < p → (subMod p a b + b) % p ≡ a % p
 sub-add p a b h =
-    rw (subMod-is p a b h) (mod-add-mod _ p b ∙ ap (λ (n : ℕ). n % p) (add-assoc a _ b) ∙ add-minus p a b h)
+    rw (subMod-is p a b h) (mod-add-mod _ p b ∙ mod-same p (add-assoc a _ b) ∙ add-minus p a b h)
 
 -- the difference of numbers below p, as it is
 pub sub-down : (p a b : ℕ) → b ≤ a → a < p → subMod p a b ≡ a - b

@@ -56,7 +56,7 @@ sum-none p zero f h = zero-mod p
 sum-none p (suc n) f h =
     none-add p (sum n f) (f n) (sum-none p n f (λ i l. h i (omega arith))) ∙ h n (omega arith)
 
--- all terms but one
+-- all terms but one are 0 modulo p
 pub sum-single : (p n k a : ℕ) (f : ℕ → ℕ) → k < n → f k % p ≡ a % p → ((i : ℕ) → i < n → i ≢ k → f i % p ≡ 0) → sum n f % p ≡ a % p
 unfolding sum
 sum-single p zero k a f l here other = absurd (omega arith)
