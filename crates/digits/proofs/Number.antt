@@ -1,4 +1,4 @@
--- Digits and numbers: the number of a list from its lowest digit and the rest, the digits of a number, and that each gives the other back.
+-- Digits and numbers: the number of a list from its lowest digit and the rest, or from its low and high digits, the digits of a number, and that each gives the other back.
 -- Everything is for any base above 0.
 -- Assumes nothing.
 use mathlib.Core.Path.{_≡_, refl, ap, ap₂, _∙_}
