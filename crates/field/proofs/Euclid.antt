@@ -48,7 +48,7 @@ cancel p a x y prime n h =
 
 -- two numbers that are neither equal nor opposite have different squares: a² c = b² c only where c is 0
 pub different-squares : (p a b c : ℕ) → Prime p → a % p ≢ b % p → (a + b) % p ≢ 0 → (a * a * c) % p ≡ (b * b * c) % p → c % p ≡ 0
-different-squares p a b c prime differ opposed h = go (ℕ-discrete (c % p) 0)
+different-squares p a b c prime differ unopposed h = go (ℕ-discrete (c % p) 0)
   where
     factors : ((a + b) * (a * c)) % p ≡ ((a + b) * (b * c)) % p
     factors =
@@ -60,4 +60,4 @@ different-squares p a b c prime differ opposed h = go (ℕ-discrete (c % p) 0)
     go (yes e) = e
     go (no n) =
         absurd (differ (cancel p c a b prime n
-        (mod-same p (mul-comm c a) ∙ cancel p (a + b) (a * c) (b * c) prime opposed factors ∙ mod-same p (mul-comm b c))))
+        (mod-same p (mul-comm c a) ∙ cancel p (a + b) (a * c) (b * c) prime unopposed factors ∙ mod-same p (mul-comm b c))))

@@ -93,8 +93,8 @@ module _ (p h : ℕ) (prime : Prime p) (whole : p ≡ suc (2 * h)) where
           ∙ none-mul p (z + b) (z * G) e
 
   pair-other : (z b : ℕ) → z % p ≢ 0 → b % p ≢ 0 → z % p ≢ b % p → (z + b) % p ≢ 0 → pair h z b % p ≡ 0
-  pair-other z b nz nb differ opposed =
-      mod-same p (pair-geometric h z b) ∙ mul-none p (z * b) G (different-squares p z b G prime differ opposed squares)
+  pair-other z b nz nb differ unopposed =
+      mod-same p (pair-geometric h z b) ∙ mul-none p (z * b) G (different-squares p z b G prime differ unopposed squares)
     where
       G : ℕ
       G = geometric (z * z) (b * b) h

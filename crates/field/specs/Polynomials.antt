@@ -6,7 +6,7 @@ use lib.Dec.{eqb}
 use Rattle.field.specs.Modular.{subMod}
 use Rattle.field.specs.Sum.{sum, total}
 
--- 1 - z^(p-1), modulo p
+-- the equality digit, and E: z^(p-1) and then FLIP, which is 1 - z^(p-1) modulo p
 abbrev pub zeroTest : ℕ → ℕ → ℕ
 zeroTest p z = subMod p 1 (z ^ (p - 1))
 
@@ -20,7 +20,7 @@ unfoldable pub orderExponents : ℕ → List ℕ
 unfolding everySecond
 orderExponents p = everySecond ((p - 1) / 2) 1 ++ ((p - 1) ∷ [])
 
--- "For odd i, c_i is the sum of b^(p-1-i), b from 1 to (p-1)/2, modulo p; c_(p-1) = (p+1)/2."
+-- "For odd i, c_i is the sum of b^(p-1-i), b from 1 to (p-1)/2, modulo p; c_(p-1) = (p+1)/2." No other i is asked for
 unfoldable pub orderConstant : ℕ → ℕ → ℕ
 orderConstant p i =
     elim (eqb i (p - 1)) [ true ↦ (p + 1) / 2 | false ↦ sum ((p - 1) / 2) (λ b. suc b ^ (p - 1 - i)) % p ]

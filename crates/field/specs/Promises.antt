@@ -29,7 +29,7 @@ FermatOne = (p z : ℕ) → Prime p → z % p ≢ 0 → (z ^ (p - 1)) % p ≡ 1
 abbrev pub FermatZero : Type 0
 FermatZero = (p : ℕ) → Prime p → 0 ^ (p - 1) ≡ 0
 
--- the sum of x^k over x < p is 0 below the exponent p - 1
+-- the sum of x^k over x < p is 0 modulo p for every k < p - 1
 abbrev pub PowerSum : Type 0
 PowerSum = (p k : ℕ) → Prime p → suc k < p → sum p (λ x. x ^ k) % p ≡ 0
 
