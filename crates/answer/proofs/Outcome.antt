@@ -4,7 +4,7 @@ use mathlib.Core.Path.{_≡_, refl, sym, ap, _∙_}
 use mathlib.Core.Bool.{Bool, true, false}
 use Prim.Native.Nat.{ℕ}
 use native.Mathlib.Omega.{arith}
-use Rattle.answer.specs.Outcome.{Answer, refused, accepted, Outcome, refuse}
+use Rattle.answer.specs.Outcome.{Answer, refused, accepted, Outcome, refuse, onAnswer}
 
 pub refused≢accepted : {A : Type 0} {k : ℕ} {a : A} → refused k ≡ accepted a → ⊥
 refused≢accepted e = let z : _≡_ {A = ℕ} 0 1 = cc in omega arith
@@ -17,3 +17,12 @@ passed answer false refusal later r e = (refl, e)
 
 pub said : {A : Type 0} {o line : Outcome A} → o ≡ line → (line .answer ≡ o .answer) × (line .lent ≡ o .lent)
 said e = (ap (λ o. o .answer) (sym e), ap (λ o. o .lent) (sym e))
+
+-- what is accepted after an answer was accepted too
+pub answered : {A B : Type 0} {b : B} (first : Answer A) (later : A → Answer B) → onAnswer first refused later ≡ accepted b
+    → (a : A) × (first ≡ accepted a) × (later a ≡ accepted b)
+answered (refused k) later e = absurd (refused≢accepted e)
+answered (accepted a) later e = (a, refl, e)
+
+pub accepted-same : {A : Type 0} {a b : A} → accepted a ≡ accepted b → a ≡ b
+accepted-same e = cc

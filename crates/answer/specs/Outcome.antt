@@ -21,3 +21,8 @@ unaltered bytes number = record { answer = refused number; lent = bytes }
 abbrev pub refuse : {R : Type 0} → Bool → R → R → R
 refuse true refusal later = refusal
 refuse false refusal later = later
+
+-- what follows a refusal's number, or the values answered
+abbrev pub onAnswer : {A R : Type 0} → Answer A → (ℕ → R) → (A → R) → R
+onAnswer (refused number) refusal later = refusal number
+onAnswer (accepted a) refusal later = later a

@@ -10,7 +10,7 @@ use lib.ListN.{length}
 use Rattle.answer.specs.Outcome.{Answer, refused, accepted}
 use Rattle.answer.proofs.Outcome.{passed}
 use Rattle.field.specs.Primes.{listed}
-use Rattle.field.proofs.Tests.{neither}
+use Rattle.field.proofs.Tests.{in-range}
 use Rattle.digits.specs.Number.{base, mostDigits, wrongCount, number, allBelow}
 use Rattle.digits.specs.Decoding.{totalOf, decoding}
 
@@ -51,13 +51,13 @@ decodes p digits x e =
     let answer : Answer ℕ → Answer ℕ = λ a. a in
     let prime = passed answer (not (listed p)) (refused 3) _ refl e in
     let count = passed answer (wrongCount (length digits)) (refused 9) _ refl (prime .1) in
-    let range = neither (ltb (length digits) 1) (ltb mostDigits (length digits)) (count .0) in
+    let range = in-range (length digits) 1 mostDigits (count .0) in
     let below = passed answer (not (allBelow (base p) digits)) (refused 23) _ refl (count .1) in
     let total = passed answer (ltb (2 ^ 64 - 1) (number (base p) digits)) (refused 24) _ refl (below .1) in
     record {
       prime = not-false (listed p) (prime .0);
-      one = ltb-false (length digits) 1 (range .0);
-      most = ltb-false mostDigits (length digits) (range .1);
+      one = range .0;
+      most = range .1;
       below = not-false (allBelow (base p) digits) (below .0);
       fits = ltb-false (2 ^ 64 - 1) (number (base p) digits) (total .0);
       same = cc;

@@ -10,7 +10,7 @@ use lib.ListN.{length, drop}
 use Rattle.answer.specs.Outcome.{Answer, accepted, Outcome, unaltered}
 use Rattle.answer.proofs.Outcome.{passed}
 use Rattle.field.specs.Primes.{listed}
-use Rattle.field.proofs.Tests.{neither}
+use Rattle.field.proofs.Tests.{in-range}
 use Rattle.digits.specs.Number.{base, mostDigits, wrongCount, digitsOf}
 use Rattle.digits.specs.Encoding.{encoding}
 
@@ -49,13 +49,13 @@ encodes p n x out e =
     let answer : Outcome Unit → Answer Unit = λ o. o .answer in
     let prime = passed answer (not (listed p)) (unaltered out 3) _ refl e in
     let count = passed answer (wrongCount n) (unaltered out 9) _ refl (prime .1) in
-    let range = neither (ltb n 1) (ltb mostDigits n) (count .0) in
+    let range = in-range n 1 mostDigits (count .0) in
     let room = passed answer (ltb (length out) n) (unaltered out 21) _ refl (count .1) in
     let small = passed answer (leb (base p ^ n) x) (unaltered out 22) _ refl (room .1) in
     record {
       prime = not-false (listed p) (prime .0);
-      one = ltb-false n 1 (range .0);
-      most = ltb-false mostDigits n (range .1);
+      one = range .0;
+      most = range .1;
       room = ltb-false (length out) n (room .0);
       small = leb-false (base p ^ n) x (small .0);
     }

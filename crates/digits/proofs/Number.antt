@@ -63,6 +63,23 @@ below-at B [] i h l = absurd (omega arith)
 below-at B (d ∷ ds) zero h l = below-cons B d ds h .0
 below-at B (d ∷ ds) (suc i) h l = below-at B ds i (below-cons B d ds h .1) (omega arith)
 
+-- a digit that is not there reads as 0
+pub below-any : (B : ℕ) (ds : List ℕ) (i : ℕ) → 0 < B → allBelow B ds ≡ true → getD ds i 0 < B
+below-any B [] i p h = p
+below-any B (d ∷ ds) zero p h = below-cons B d ds h .0
+below-any B (d ∷ ds) (suc i) p h = below-any B ds i p (below-cons B d ds h .1)
+
+pub below-append : (B : ℕ) (ds es : List ℕ) → allBelow B ds ≡ true → allBelow B es ≡ true → allBelow B (ds ++ es) ≡ true
+unfolding allBelow
+below-append B [] es h k = k
+below-append B (d ∷ ds) es h k =
+    let s = below-cons B d ds h in rw (lt-ltb d B (s .0)) (below-append B ds es (s .1) k)
+
+pub below-drop : (B : ℕ) (ds : List ℕ) (i : ℕ) → allBelow B ds ≡ true → allBelow B (drop i ds) ≡ true
+below-drop B ds zero h = h
+below-drop B [] (suc i) h = h
+below-drop B (d ∷ ds) (suc i) h = below-drop B ds i (below-cons B d ds h .1)
+
 -- ---- the digits of a number
 
 pub length-digits : (B n x : ℕ) → length (digitsOf B n x) ≡ n

@@ -1,4 +1,4 @@
--- Laws of tests: two that both hold, two of which neither does, and two comparisons that hold together.
+-- Laws of tests: two that both hold, two of which neither does, a range, and two comparisons that hold together.
 -- Assumes nothing.
 use mathlib.Core.Path.{_≡_, refl, sym, _∙_}
 use mathlib.Core.Logic.{_↔_}
@@ -14,6 +14,11 @@ both false b t = absurd (false≢true t)
 pub neither : (a b : Bool) → (a || b) ≡ false → (a ≡ false) × (b ≡ false)
 neither true b t = absurd (true≢false t)
 neither false b t = (refl, t)
+
+-- neither below the range nor above it
+pub in-range : (x low high : ℕ) → (ltb x low || ltb high x) ≡ false → (low ≤ x) × (x ≤ high)
+in-range x low high t =
+    let s = neither (ltb x low) (ltb high x) t in (ltb-false x low (s .0), ltb-false high x (s .1))
 
 pub ltb-same : (a b c d : ℕ) → (a < b → c < d) → (b ≤ a → d ≤ c) → ltb a b ≡ ltb c d
 ltb-same a b c d less more = go (ltb a b) refl

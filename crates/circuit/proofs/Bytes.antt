@@ -1,0 +1,67 @@
+-- Every byte of a well-formed table is below 256: kinds, slots, weights and primes are, and each half of a u16.
+-- Assumes nothing.
+use mathlib.Core.Path.{_≡_, refl}
+use mathlib.Core.Bool.{true}
+use mathlib.Core.List.{List, [], _∷_}
+use Prim.Native.Nat.{ℕ, suc, _+_, _/_, _%_, _≤_, _<_}
+use native.Mathlib.Omega.{arith}
+use borrow.Author.Tests.{ltb-true, lt-ltb}
+use lib.Dec.{ltb}
+use lib.ListN.{length}
+use Rattle.field.proofs.Primes.{listed-iff}
+use Rattle.field.proofs.Tests.{both, in-range}
+use Rattle.digits.specs.Number.{mostDigits, allBelow}
+use Rattle.digits.proofs.Number.{below-append}
+use Rattle.circuit.specs.Constant.{isConstant}
+use Rattle.circuit.specs.Gate.{Gate, Left, Right, Add, Sub, Scale, Flip, Mul, fields, gateBytes}
+use Rattle.circuit.specs.Promises.{TableBytes}
+use Rattle.circuit.specs.Table.{Head, headBytes, gatesBytes, mostGates, fits, allFit}
+use Rattle.circuit.proofs.Fitting.{two-below, fit-cons}
+use Rattle.circuit.proofs.Reading.{well-formed}
+
+-- the fields of a gate are a byte and two u16
+abbrev Small : Gate → Type 0
+Small g = (fields g .kind < 256) × (fields g .a < 65536) × (fields g .b < 65536)
+
+fields-small : (head : Head) (k : ℕ) (g : Gate) → head .prime ≤ 65536 → head .slots ≤ 65536 → k ≤ 65536 → fits head k g ≡ true → Small g
+fields-small head k (Left a) p n l t = omega (arith, ltb-true a (head .slots) t)
+fields-small head k (Right a) p n l t = omega (arith, ltb-true a (head .slots) t)
+fields-small head k (Add a b) p n l t = omega (arith, two-below a b k t)
+fields-small head k (Sub a b) p n l t = omega (arith, two-below a b k t)
+fields-small head k (Scale a b) p n l t =
+    let s = both (ltb a k) (isConstant (head .prime) b) t in omega (arith, ltb-true a k (s .0), ltb-true b (head .prime) (s .1))
+fields-small head k (Flip a) p n l t = omega (arith, ltb-true a k t)
+fields-small head k (Mul a b) p n l t = omega (arith, two-below a b k t)
+
+gate-below : (g : Gate) → Small g → allBelow 256 (gateBytes g) ≡ true
+unfolding allBelow
+gate-below g s =
+    let kind : fields g .kind < 256 = s .0 in
+    let a : fields g .a < 65536 = s .1 in
+    let b : fields g .b < 65536 = s .2 in
+    rw (lt-ltb (fields g .kind) 256 kind, lt-ltb (fields g .a % 256) 256 (omega arith), lt-ltb (fields g .a / 256) 256 (omega arith), lt-ltb (fields g .b % 256) 256 (omega arith), lt-ltb (fields g .b / 256) 256 (omega arith))
+
+gates-below : (head : Head) (k : ℕ) (gs : List Gate) → head .prime ≤ 65536 → head .slots ≤ 65536 → k + length gs ≤ 65536 → allFit head k gs ≡ true → allBelow 256 (gatesBytes gs) ≡ true
+unfolding gatesBytes allBelow
+gates-below head k [] p n l t = refl
+gates-below head k (g ∷ gs) p n l t =
+    let s = fit-cons head k g gs t in
+    below-append 256 (gateBytes g) (gatesBytes gs) (gate-below g (fields-small head k g p n (omega arith) (s .0)))
+    (gates-below head (suc k) gs p n (omega arith) (s .1))
+
+head-below : (head : Head) (count : ℕ) → head .prime < 256 → head .weight < 256 → head .slots < 256 → count < 65536 → allBelow 256 (headBytes head count) ≡ true
+unfolding allBelow
+head-below head count p w n l =
+    rw (lt-ltb (head .prime) 256 p, lt-ltb (head .weight) 256 w, lt-ltb (head .slots) 256 n, lt-ltb (count % 256) 256 (omega arith), lt-ltb (count / 256) 256 (omega arith))
+
+pub table-below : TableBytes
+table-below table t =
+    let w = well-formed table t in
+    let head = table .head in
+    let prime : head .prime ≤ 251 = listed-iff (head .prime) .0 (w .prime) .high in
+    let weight = in-range (head .weight) 50 100 (w .weight) in
+    let slots = in-range (head .slots) 1 mostDigits (w .slots) in
+    let count = in-range (length (table .gates)) 1 mostGates (w .count) in
+    below-append 256 (headBytes head (length (table .gates))) (gatesBytes (table .gates))
+    (head-below head (length (table .gates)) (omega arith) (omega arith) (omega arith) (omega arith))
+    (gates-below head 0 (table .gates) (omega arith) (omega arith) (omega arith) (w .fitted))

@@ -1,0 +1,18 @@
+-- Laws of facts of every entry of a list: from one fact to another, and equal entries one by one.
+-- Assumes nothing.
+use mathlib.Core.Path.{_≡_, refl, ap₂}
+use mathlib.Core.List.{List, [], _∷_, map}
+use Rattle.circuit.specs.Every.{Every}
+
+module _ {X : Type 0} where
+  pub every-map : {P Q : X → Type 0} → ((x : X) → P x → Q x) → (xs : List X) → Every P xs → Every Q xs
+  every-map turn [] h = tt
+  every-map turn (x ∷ xs) h = (turn x (h .0), every-map turn xs (h .1))
+
+  pub every-map₂ : {P Q R : X → Type 0} → ((x : X) → P x → Q x → R x) → (xs : List X) → Every P xs → Every Q xs → Every R xs
+  every-map₂ turn [] h k = tt
+  every-map₂ turn (x ∷ xs) h k = (turn x (h .0) (k .0), every-map₂ turn xs (h .1) (k .1))
+
+  pub map-same : {Y : Type 0} (F G : X → Y) (xs : List X) → Every (λ x. F x ≡ G x) xs → map F xs ≡ map G xs
+  map-same F G [] h = refl
+  map-same F G (x ∷ xs) h = ap₂ _∷_ (h .0) (map-same F G xs (h .1))

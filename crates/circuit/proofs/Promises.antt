@@ -1,0 +1,60 @@
+-- The promises of tables: what Check, Trim and Run answer for a table's bytes, that Check accepts nothing else, and the bounds of what it answers.
+-- All follow from what reading gives, in `proofs/Reading.antt`.
+-- Assumes nothing.
+use mathlib.Core.Path.{sym}
+use Prim.Native.Nat.{_+_, _-_, _*_, _≤_}
+use native.Mathlib.Omega.{arith}
+use lib.ListN.{length, drop}
+use lib.Seq.{take-at}
+use Rattle.answer.proofs.Outcome.{answered, accepted-same}
+use Rattle.field.proofs.Tests.{in-range}
+use Rattle.circuit.specs.Promises.{ReadsBack, OnlyTables, ChecksTables, ChecksOnlyTables, TrimsTables, TrimsNothing, RunsTables, ReportBounds}
+use Rattle.circuit.specs.Reading.{reading}
+use Rattle.circuit.specs.Report.{report}
+use Rattle.circuit.specs.Table.{Table, tableBytes, mostGates}
+use Rattle.circuit.proofs.Bounds.{depths-below, counts-below, cost-below}
+use Rattle.circuit.proofs.Reading.{length-table, WellFormed, well-formed, is-well-formed, read-table, reads, table-bytes}
+
+pub reads-back : ReadsBack
+reads-back table later t = read-table table later (well-formed table t)
+
+pub only-tables : OnlyTables
+only-tables bytes table h e =
+    let r = reads bytes table e in (is-well-formed table (r .formed), table-bytes bytes table h r)
+
+pub checks-tables : ChecksTables
+checks-tables table later t = rw (reads-back table later t)
+
+pub checks-only-tables : ChecksOnlyTables
+checks-only-tables bytes told h e =
+    let r = answered (reading bytes) _ e in
+    let only = only-tables bytes (r .0) h (r .1) in
+    (r .0, drop (8 * (length (r .0 .gates) + 1)) bytes, only .0, only .1, sym (accepted-same (r .2)))
+
+pub trims-tables : TrimsTables
+trims-tables table later t =
+    rw (checks-tables table later t) (take-at (tableBytes table) later (8 * (length (table .gates) + 1)) (length-table table))
+
+pub trims-nothing : TrimsNothing
+trims-nothing bytes number e = rw e
+
+pub runs-tables : RunsTables
+runs-tables table later left right work t = rw (reads-back table later t)
+
+-- the bounds of a well-formed table's report
+bounds : (table : Table) → WellFormed table
+    → (report table .gates ≤ mostGates) × (report table .depth ≤ 8190) × (report table .cost ≤ 819100) × (report table .products + report table .squares ≤ report table .gates)
+bounds table w =
+    let gates = table .gates in
+    let count = in-range (length gates) 1 mostGates (w .count) in
+    let weight = in-range (table .head .weight) 50 100 (w .weight) in (
+      count .1,
+      omega (arith, depths-below (table .head) gates (length gates - 1) (w .fitted) (omega arith)),
+      omega (arith, cost-below (table .head .weight) gates (weight .1)),
+      counts-below gates,
+    )
+
+pub report-bounds : ReportBounds
+report-bounds bytes told e =
+    let r = answered (reading bytes) _ e in
+    rw (← accepted-same (r .2)) (bounds (r .0) (reads bytes (r .0) (r .1) .formed))

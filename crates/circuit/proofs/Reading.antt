@@ -1,0 +1,274 @@
+-- Reading bytes: a well-formed table's bytes read as that table, and whatever is read is such a table, byte for byte.
+-- A record's eight bytes and its gate determine each other; the gates follow by induction on the records, the head by its rules one at a time.
+-- Assumes nothing.
+use mathlib.Core.Path.{_≡_, refl, sym, ap, ap₂, subst, _∙_}
+use mathlib.Core.Bool.{true, false, not, _&&_}
+use mathlib.Core.List.{List, [], _∷_, _++_}
+use Prim.Native.Nat.{ℕ, zero, suc, _+_, _*_, _/_, _%_, _≤_, _<_}
+use native.Mathlib.Omega.{arith}
+use native.Mathlib.Nat.{zero-add}
+use borrow.Author.Tests.{eq-eqb, le-ltb, eqb-true, ltb-false, not-true, not-false}
+use lib.Dec.{ltb, eqb}
+use lib.ListN.{length, drop, length-append, length-drop, List·getD-append}
+use lib.Seq.{drop-cons, drop-drop, drop-append-le}
+use Rattle.answer.specs.Outcome.{Answer, refused, accepted, onAnswer}
+use Rattle.answer.proofs.Outcome.{refused≢accepted, passed, answered, accepted-same}
+use Rattle.field.specs.Primes.{listed}
+use Rattle.field.proofs.Tests.{both, neither}
+use Rattle.digits.specs.Number.{wrongCount, allBelow}
+use Rattle.digits.proofs.Number.{below-at, below-drop}
+use Rattle.circuit.specs.Bytes.{Mark, byte, wrongMark, u16At}
+use Rattle.circuit.specs.Gate.{Gate, Left, Right, Add, Sub, Scale, Flip, Mul, fields, numbered, kinds, gateOf, gateMark, gateBytes}
+use Rattle.circuit.specs.Promises.{LaterBytes}
+use Rattle.circuit.specs.Reading.{fitting, readGate, readGates, headOf, countOf, reading}
+use Rattle.circuit.specs.Table.{Head, Table, headMark, gatesBytes, tableBytes, wrongWeight, wrongGateCount, fits, allFit, wellFormed}
+use Rattle.circuit.proofs.Fitting.{fit-cons}
+
+-- ---- from gates to bytes and back
+
+-- the two bytes of a u16
+whole : (x : ℕ) → x % 256 + 256 * (x / 256) ≡ x
+whole x = omega arith
+
+-- the gate of its own fields
+gate-back : (head : Head) (k : ℕ) (g : Gate) → fits head k g ≡ true
+    → onAnswer (gateOf (fields g .kind) (fields g .a) (fields g .b)) refused (fitting head k (fields g .b)) ≡ accepted g
+gate-back head k (Left a) t = rw t
+gate-back head k (Right a) t = rw t
+gate-back head k (Add a b) t = rw (t, eq-eqb b b refl)
+gate-back head k (Sub a b) t = rw (t, eq-eqb b b refl)
+gate-back head k (Scale a b) t = rw (t, eq-eqb b b refl)
+gate-back head k (Flip a) t = rw t
+gate-back head k (Mul a b) t = rw (t, eq-eqb b b refl)
+
+read-gate : (head : Head) (k : ℕ) (g : Gate) (later : List ℕ) → fits head k g ≡ true → readGate head k (gateBytes g ++ later) ≡ accepted g
+read-gate head k g later t = rw (whole (fields g .a), whole (fields g .b)) (gate-back head k g t)
+
+read-gates : (head : Head) (k : ℕ) (gs : List Gate) (later : List ℕ) → allFit head k gs ≡ true → readGates head k (length gs) (gatesBytes gs ++ later) ≡ accepted gs
+unfolding readGates gatesBytes
+read-gates head k [] later t = refl
+read-gates head k (g ∷ gs) later t =
+    let s = fit-cons head k g gs t in
+    rw (read-gate head k g (gatesBytes gs ++ later) (s .0), read-gates head (suc k) gs later (s .1))
+
+pub length-gates : (gs : List Gate) → length (gatesBytes gs) ≡ 8 * length gs
+unfolding gatesBytes
+length-gates [] = refl
+length-gates (g ∷ gs) = omega (arith, length-gates gs)
+
+pub length-table : (table : Table) → length (tableBytes table) ≡ 8 * (length (table .gates) + 1)
+length-table table = omega (arith, length-gates (table .gates))
+
+-- every rule that a well-formed table keeps
+pub record WellFormed (table : Table) : Type 0 where
+  pub prime : listed (table .head .prime) ≡ true
+  pub weight : wrongWeight (table .head .weight) ≡ false
+  pub slots : wrongCount (table .head .slots) ≡ false
+  pub count : wrongGateCount (length (table .gates)) ≡ false
+  pub fitted : allFit (table .head) 0 (table .gates) ≡ true
+
+pub well-formed : (table : Table) → wellFormed table ≡ true → WellFormed table
+well-formed table t =
+    let prime = both (listed (table .head .prime)) _ t in
+    let weight = both (not (wrongWeight (table .head .weight))) _ (prime .1) in
+    let slots = both (not (wrongCount (table .head .slots))) _ (weight .1) in
+    let count = both (not (wrongGateCount (length (table .gates)))) _ (slots .1) in
+    record {
+      prime = prime .0;
+      weight = not-true _ (weight .0);
+      slots = not-true _ (slots .0);
+      count = not-true _ (count .0);
+      fitted = count .1;
+    }
+
+pub is-well-formed : (table : Table) → WellFormed table → wellFormed table ≡ true
+is-well-formed table w = rw (w .prime, w .weight, w .slots, w .count, w .fitted)
+
+pub read-table : (table : Table) (later : List ℕ) → WellFormed table → reading (tableBytes table ++ later) ≡ accepted table
+read-table table later w =
+    let count : ℕ = length (table .gates) in
+    let size : length (tableBytes table ++ later) ≡ 8 * (count + 1) + length later
+    = length-append (tableBytes table) later ∙ ap (λ (n : ℕ). n + length later) (length-table table) in
+    rw (le-ltb (length (tableBytes table ++ later)) 8 (omega arith), w .prime, w .weight, w .slots, whole count, w .count, le-ltb (length (tableBytes table ++ later)) (8 * (count + 1)) (omega arith), read-gates (table .head) 0 (table .gates) later (w .fitted))
+
+-- ---- from bytes to gates
+
+mark-is : (mark : Mark) (bytes : List ℕ) → wrongMark mark bytes ≡ false → (byte bytes 0 ≡ mark .opening) × (byte bytes 1 ≡ mark .closing)
+mark-is mark bytes t =
+    let s = neither (not (eqb (byte bytes 0) (mark .opening))) (not (eqb (byte bytes 1) (mark .closing))) t in
+    (eqb-true _ _ (not-false _ (s .0)), eqb-true _ _ (not-false _ (s .1)))
+
+-- gates over a, of the kinds after kind n in their order
+abbrev Kinds : ℕ → ℕ → List Gate → Type 0
+Kinds n a [] = Unit {0}
+Kinds n a (g ∷ gs) = (fields g .kind ≡ suc n) × (fields g .a ≡ a) × Kinds (suc n) a gs
+
+numbered-fields : (n a kind : ℕ) (gs : List Gate) (g : Gate) → Kinds n a gs → numbered kind gs ≡ accepted g → (fields g .kind ≡ n + kind) × (fields g .a ≡ a)
+numbered-fields n a kind [] g o e = absurd (refused≢accepted e)
+numbered-fields n a zero (h ∷ hs) g o e = absurd (refused≢accepted e)
+numbered-fields n a (suc zero) (h ∷ hs) g o e =
+    let same : h ≡ g = accepted-same e in (omega (arith, o .0, ap (λ g. fields g .kind) same), cc)
+numbered-fields n a (suc (suc kind)) (h ∷ hs) g o e =
+    let s = numbered-fields (suc n) a (suc kind) hs g (o .2) e in (omega (arith, s .0), s .1)
+
+in-order : (a b : ℕ) → Kinds 0 a (kinds a b)
+in-order a b = omega arith
+
+-- what a record says whose gate was read
+record Says (head : Head) (k : ℕ) (bytes : List ℕ) (g : Gate) : Type 0 where
+  mark : (byte bytes 0 ≡ gateMark .opening) × (byte bytes 1 ≡ gateMark .closing)
+  spare : byte bytes 3 ≡ 0
+  kind : fields g .kind ≡ byte bytes 2
+  a : fields g .a ≡ u16At bytes 4
+  b : fields g .b ≡ u16At bytes 6
+  fitted : fits head k g ≡ true
+
+says : (head : Head) (k : ℕ) (bytes : List ℕ) (g : Gate) → readGate head k bytes ≡ accepted g → Says head k bytes g
+says head k bytes g e =
+    let answer : Answer Gate → Answer Gate = λ r. r in
+    let mark = passed answer (wrongMark gateMark bytes) (refused 2) _ refl e in
+    let spare = passed answer (not (eqb (byte bytes 3) 0)) (refused 5) _ refl (mark .1) in
+    let kind = answered (gateOf (byte bytes 2) (u16At bytes 4) (u16At bytes 6)) (fitting head k (u16At bytes 6)) (spare .1) in
+    let operand = passed answer (not (fits head k (kind .0) && eqb (u16At bytes 6) (fields (kind .0) .b))) (refused 17) _ refl (kind .2) in
+    let same : kind .0 ≡ g = accepted-same (operand .1) in
+    let fitted = both (fits head k (kind .0)) (eqb (u16At bytes 6) (fields (kind .0) .b)) (not-false _ (operand .0)) in
+    let told = numbered-fields 0 (u16At bytes 4) (byte bytes 2) (kinds (u16At bytes 4) (u16At bytes 6)) (kind .0) (in-order (u16At bytes 4) (u16At bytes 6)) (kind .1) in
+    record {
+      mark = mark-is gateMark bytes (mark .0);
+      spare = eqb-true _ _ (not-false _ (spare .0));
+      kind = ap (λ g. fields g .kind) (sym same) ∙ told .0 ∙ zero-add _;
+      a = ap (λ g. fields g .a) (sym same) ∙ told .1;
+      b = ap (λ g. fields g .b) (sym same) ∙ sym (eqb-true _ _ (fitted .1));
+      fitted = ap (fits head k) (sym same) ∙ fitted .0;
+    }
+
+-- eight bytes and those after them
+eight : (bytes : List ℕ) → 8 ≤ length bytes
+    → bytes ≡ byte bytes 0 ∷ byte bytes 1 ∷ byte bytes 2 ∷ byte bytes 3 ∷ byte bytes 4 ∷ byte bytes 5 ∷ byte bytes 6 ∷ byte bytes 7 ∷ drop 8 bytes
+eight bytes h =
+    drop-cons bytes 0 0 (omega arith)
+    ∙ rw (drop-cons bytes 1 0 (omega arith), drop-cons bytes 2 0 (omega arith), drop-cons bytes 3 0 (omega arith), drop-cons bytes 4 0 (omega arith))
+    (rw (drop-cons bytes 5 0 (omega arith), drop-cons bytes 6 0 (omega arith), drop-cons bytes 7 0 (omega arith)))
+
+-- the two bytes of a u16 that was read
+u16-bytes : (bytes : List ℕ) (i x : ℕ) → allBelow 256 bytes ≡ true → i + 1 < length bytes → x ≡ u16At bytes i
+    → (x % 256 ≡ byte bytes i) × (x / 256 ≡ byte bytes (i + 1))
+u16-bytes bytes i x h l e =
+    let low = below-at 256 bytes i h (omega arith) in
+    let high = below-at 256 bytes (i + 1) h l in
+    (omega (arith, low, high), omega (arith, low, high))
+
+-- the bytes of a gate that was read
+gate-bytes : (head : Head) (k : ℕ) (bytes : List ℕ) (g : Gate) → 8 ≤ length bytes → allBelow 256 bytes ≡ true → Says head k bytes g
+    → bytes ≡ gateBytes g ++ drop 8 bytes
+gate-bytes head k bytes g l h s =
+    let a = u16-bytes bytes 4 (fields g .a) h (omega arith) (s .a) in
+    let b = u16-bytes bytes 6 (fields g .b) h (omega arith) (s .b) in
+    eight bytes l ∙ rw (s .mark .0, s .mark .1, s .spare, s .kind, a .0, a .1, b .0, b .1)
+
+-- the first gate, and the others
+gates-cons : (head : Head) (k count : ℕ) (bytes : List ℕ) (gs : List Gate) → readGates head k (suc count) bytes ≡ accepted gs
+    → (g : Gate) × (later : List Gate) × (gs ≡ g ∷ later) × Says head k bytes g × (readGates head (suc k) count (drop 8 bytes) ≡ accepted later)
+unfolding readGates
+gates-cons head k count bytes gs e =
+    let first = answered (readGate head k bytes) _ e in
+    let others = answered (readGates head (suc k) count (drop 8 bytes)) _ (first .2) in
+    (first .0, others .0, sym (accepted-same (others .2)), says head k bytes (first .0) (first .1), others .1)
+
+-- the gates that were read are as many as there should be, and each fits
+gates-fit : (head : Head) (k count : ℕ) (bytes : List ℕ) (gs : List Gate) → readGates head k count bytes ≡ accepted gs
+    → (length gs ≡ count) × (allFit head k gs ≡ true)
+unfolding readGates allFit
+gates-fit head k zero bytes gs e = rw (← accepted-same e) (refl, refl)
+gates-fit head k (suc count) bytes gs e =
+    let s = gates-cons head k count bytes gs e in
+    let later = gates-fit head (suc k) count (drop 8 bytes) (s .1) (s .4) in
+    rw (s .2) (ap suc (later .0), rw (s .3 .fitted) (later .1))
+
+-- and their bytes are those that were lent
+gates-bytes : (head : Head) (k count : ℕ) (bytes : List ℕ) (gs : List Gate) → 8 * count ≤ length bytes → allBelow 256 bytes ≡ true
+    → readGates head k count bytes ≡ accepted gs → bytes ≡ gatesBytes gs ++ drop (8 * count) bytes
+unfolding readGates gatesBytes
+gates-bytes head k zero bytes gs l h e = rw (← accepted-same e) refl
+gates-bytes head k (suc count) bytes gs l h e =
+    let s = gates-cons head k count bytes gs e in
+    let room : 8 * count ≤ length (drop 8 bytes) = rw length-drop (omega arith) in
+    let later = gates-bytes head (suc k) count (drop 8 bytes) (s .1) room (below-drop 256 bytes 8 h) (s .4) in
+    let size : 8 * suc count ≡ 8 + 8 * count = omega arith in
+    let end : drop (8 * count) (drop 8 bytes) ≡ drop (8 * suc count) bytes = rw size (drop-drop (8 * count) 8 bytes) in
+    gate-bytes head k bytes (s .0) (omega arith) h (s .3)
+    ∙ ap (λ (l : List ℕ). gateBytes (s .0) ++ l) later
+    ∙ ap₂ (λ (gs : List Gate) (l : List ℕ). gatesBytes gs ++ l) (sym (s .2)) end
+
+-- every rule that accepted bytes have passed, and what was read
+pub record Reads (bytes : List ℕ) (table : Table) : Type 0 where
+  pub mark : (byte bytes 0 ≡ headMark .opening) × (byte bytes 1 ≡ headMark .closing)
+  pub head : table .head ≡ headOf bytes
+  pub spare : byte bytes 5 ≡ 0
+  pub count : length (table .gates) ≡ countOf bytes
+  pub room : 8 * (countOf bytes + 1) ≤ length bytes
+  pub gates : readGates (headOf bytes) 0 (countOf bytes) (drop 8 bytes) ≡ accepted (table .gates)
+  pub formed : WellFormed table
+
+pub reads : (bytes : List ℕ) (table : Table) → reading bytes ≡ accepted table → Reads bytes table
+reads bytes table e =
+    let answer : Answer Table → Answer Table = λ r. r in
+    let least = passed answer (ltb (length bytes) 8) (refused 12) _ refl e in
+    let mark = passed answer (wrongMark headMark bytes) (refused 2) _ refl (least .1) in
+    let prime = passed answer (not (listed (headOf bytes .prime))) (refused 3) _ refl (mark .1) in
+    let weight = passed answer (wrongWeight (headOf bytes .weight)) (refused 4) _ refl (prime .1) in
+    let slots = passed answer (wrongCount (headOf bytes .slots)) (refused 13) _ refl (weight .1) in
+    let spare = passed answer (not (eqb (byte bytes 5) 0)) (refused 5) _ refl (slots .1) in
+    let count = passed answer (wrongGateCount (countOf bytes)) (refused 14) _ refl (spare .1) in
+    let room = passed answer (ltb (length bytes) (8 * (countOf bytes + 1))) (refused 15) _ refl (count .1) in
+    let gates = answered (readGates (headOf bytes) 0 (countOf bytes) (drop 8 bytes)) _ (room .1) in
+    let same : record { head = headOf bytes; gates = gates .0 } ≡ table = accepted-same (gates .2) in
+    let fit = gates-fit (headOf bytes) 0 (countOf bytes) (drop 8 bytes) (gates .0) (gates .1) in
+    rw (← same) (record {
+      mark = mark-is headMark bytes (mark .0);
+      head = refl;
+      spare = eqb-true _ _ (not-false _ (spare .0));
+      count = fit .0;
+      room = ltb-false _ _ (room .0);
+      gates = gates .1;
+      formed = record {
+        prime = not-false (listed (headOf bytes .prime)) (prime .0);
+        weight = weight .0;
+        slots = slots .0;
+        count = rw (fit .0) (count .0);
+        fitted = fit .1;
+      };
+    })
+
+pub table-bytes : (bytes : List ℕ) (table : Table) → allBelow 256 bytes ≡ true → Reads bytes table
+    → bytes ≡ tableBytes table ++ drop (8 * (length (table .gates) + 1)) bytes
+table-bytes bytes table h r =
+    let count = u16-bytes bytes 6 (length (table .gates)) h (omega (arith, r .room)) (r .count) in
+    let size : 8 * (length (table .gates) + 1) ≡ 8 + 8 * countOf bytes = omega (arith, r .count) in
+    let room : 8 * countOf bytes ≤ length (drop 8 bytes) = rw length-drop (omega (arith, r .room)) in
+    let gates = gates-bytes (headOf bytes) 0 (countOf bytes) (drop 8 bytes) (table .gates) room (below-drop 256 bytes 8 h) (r .gates) in
+    eight bytes (omega (arith, r .room))
+    ∙ rw (size, ← drop-drop (8 * countOf bytes) 8 bytes, r .head, r .mark .0, r .mark .1, r .spare, count .0, count .1, ← gates)
+
+-- ---- later bytes
+
+gate-kept : (head : Head) (k : ℕ) (bytes later : List ℕ) → 8 ≤ length bytes → readGate head k (bytes ++ later) ≡ readGate head k bytes
+gate-kept head k bytes later h =
+    subst (λ (l : List ℕ). readGate head k (l ++ later) ≡ readGate head k l) (sym (eight bytes h)) refl
+
+gates-kept : (head : Head) (k count : ℕ) (bytes later : List ℕ) → 8 * count ≤ length bytes → readGates head k count (bytes ++ later) ≡ readGates head k count bytes
+unfolding readGates
+gates-kept head k zero bytes later h = refl
+gates-kept head k (suc count) bytes later h =
+    let room : 8 * count ≤ length (drop 8 bytes) = rw length-drop (omega arith) in
+    rw (gate-kept head k bytes later (omega arith), drop-append-le 8 bytes later (omega arith), gates-kept head (suc k) count (drop 8 bytes) later room)
+
+byte-kept : (bytes later : List ℕ) (i : ℕ) → i < length bytes → byte (bytes ++ later) i ≡ byte bytes i
+byte-kept bytes later i h = List·getD-append bytes later 0 i h
+
+pub later-bytes : LaterBytes
+later-bytes bytes later least room =
+    let size = length-append bytes later in
+    let rest : 8 * countOf bytes ≤ length (drop 8 bytes) = rw length-drop (omega arith) in
+    rw (byte-kept bytes later 0 (omega arith), byte-kept bytes later 1 (omega arith), byte-kept bytes later 2 (omega arith), byte-kept bytes later 3 (omega arith), byte-kept bytes later 4 (omega arith), byte-kept bytes later 5 (omega arith), byte-kept bytes later 6 (omega arith), byte-kept bytes later 7 (omega arith))
+    (rw (le-ltb (length (bytes ++ later)) 8 (omega arith), le-ltb (length bytes) 8 least, le-ltb (length (bytes ++ later)) (8 * (countOf bytes + 1)) (omega arith), le-ltb (length bytes) (8 * (countOf bytes + 1)) room, drop-append-le 8 bytes later least, gates-kept (headOf bytes) 0 (countOf bytes) (drop 8 bytes) later rest))

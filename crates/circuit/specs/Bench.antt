@@ -1,0 +1,87 @@
+-- Two tables of document 01, "Bench cards", written out, and what the definitions have to give for them. Proved in `proofs/Bench.antt`.
+use mathlib.Core.Path.{_≡_}
+use mathlib.Core.List.{List, [], _∷_, _++_, map}
+use Prim.Native.Nat.{ℕ}
+use Rattle.answer.specs.Outcome.{Answer, accepted, onAnswer}
+use Rattle.circuit.specs.Gate.{Left, Right, Add, Sub, Scale, Flip, Mul}
+use Rattle.circuit.specs.Meaning.{output}
+use Rattle.circuit.specs.Outcomes.{checking, running}
+use Rattle.circuit.specs.Report.{Report}
+use Rattle.circuit.specs.Table.{Table, tableBytes}
+use Rattle.circuit.specs.Value.{values}
+
+-- the listing of the first bench card: p=3, s=75, "<" of 1
+abbrev pub lessTable : Table
+lessTable = record {
+  head = record { prime = 3; weight = 75; slots = 1 };
+  gates = Left 0 ∷ Right 0 ∷ Sub 0 1 ∷ Mul 2 2 ∷ Scale 2 1 ∷ Scale 3 2 ∷ Add 4 5 ∷ [];
+}
+
+-- "p=7, s=50, one "=" of 1": z^2, z^4, then z^6 as their product, and its FLIP
+abbrev pub equalTable : Table
+equalTable = record {
+  head = record { prime = 7; weight = 50; slots = 1 };
+  gates = Left 0 ∷ Right 0 ∷ Sub 0 1 ∷ Mul 2 2 ∷ Mul 3 3 ∷ Mul 3 4 ∷ Flip 5 ∷ [];
+}
+
+abbrev told : ℕ → ℕ → ℕ → ℕ → ℕ → Report
+told gates products squares cost depth =
+    record { gates = gates; products = products; squares = squares; cost = cost; depth = depth }
+
+-- "gates 7 products 0 squares 1 cost 75 depth 1" and "G 7, products 1, squares 2, cost 200, depth 3"
+abbrev pub BenchReports : Type 0
+BenchReports =
+    (checking (tableBytes lessTable) ≡ accepted (told 7 0 1 75 1)) × (checking (tableBytes equalTable) ≡ accepted (told 7 1 2 200 3))
+
+-- the output of a table of one slot, for pairs of a left and a right digit
+abbrev pub outputs : Table → List (ℕ × ℕ) → List ℕ
+outputs table pairs =
+    map (λ (d : ℕ × ℕ). output (values (table .head .prime) (d .0 ∷ []) (d .1 ∷ [])) (table .gates)) pairs
+
+-- "<" and "=" of digits below B, which is 2 at p=3 and 4 at p=7
+abbrev pub BenchOutputs : Type 0
+BenchOutputs =
+    (outputs lessTable ((0, 0) ∷ (0, 1) ∷ (1, 0) ∷ (1, 1) ∷ []) ≡ 0 ∷ 1 ∷ 0 ∷ 0 ∷ [])
+    × (outputs equalTable ((0, 0) ∷ (0, 1) ∷ (1, 0) ∷ (2, 0) ∷ (3, 0) ∷ (1, 3) ∷ (3, 3) ∷ []) ≡ 1 ∷ 0 ∷ 0 ∷ 0 ∷ 0 ∷ 0 ∷ 1 ∷ [])
+
+-- 0 < 1 run with one work byte to spare, and bytes after the table
+abbrev pub BenchRun : Type 0
+BenchRun =
+    running (tableBytes lessTable ++ (7 ∷ 7 ∷ [])) (0 ∷ []) (1 ∷ []) (9 ∷ 9 ∷ 9 ∷ 9 ∷ 9 ∷ 9 ∷ 9 ∷ 9 ∷ [])
+    ≡ record { answer = accepted 1; lent = 0 ∷ 1 ∷ 2 ∷ 1 ∷ 2 ∷ 2 ∷ 1 ∷ 9 ∷ [] }
+
+-- the head of a table of one gate: p=3, s=75, one slot
+abbrev oneGate : List ℕ
+oneGate = 0x47 ∷ 0x48 ∷ 3 ∷ 75 ∷ 1 ∷ 0 ∷ 1 ∷ 0 ∷ []
+
+-- the refusal's number, or 0
+abbrev number : {A : Type 0} → Answer A → ℕ
+number answer = onAnswer answer (λ k. k) (λ a. 0)
+
+-- bytes that break every rule, mended one rule at a time: each is refused by the first rule that is still broken
+abbrev pub brokenTables : List (List ℕ)
+brokenTables =
+    []
+    ∷ (0 ∷ 0 ∷ 0 ∷ 0 ∷ 0 ∷ 1 ∷ 0 ∷ 0 ∷ [])
+    ∷ (0x47 ∷ 0x48 ∷ 0 ∷ 0 ∷ 0 ∷ 1 ∷ 0 ∷ 0 ∷ [])
+    ∷ (0x47 ∷ 0x48 ∷ 3 ∷ 0 ∷ 0 ∷ 1 ∷ 0 ∷ 0 ∷ [])
+    ∷ (0x47 ∷ 0x48 ∷ 3 ∷ 75 ∷ 0 ∷ 1 ∷ 0 ∷ 0 ∷ [])
+    ∷ (0x47 ∷ 0x48 ∷ 3 ∷ 75 ∷ 1 ∷ 1 ∷ 0 ∷ 0 ∷ [])
+    ∷ (0x47 ∷ 0x48 ∷ 3 ∷ 75 ∷ 1 ∷ 0 ∷ 0 ∷ 0 ∷ [])
+    ∷ (0x47 ∷ 0x48 ∷ 3 ∷ 75 ∷ 1 ∷ 0 ∷ 1 ∷ 0 ∷ [])
+    ∷ (oneGate ++ (0 ∷ 0 ∷ 0 ∷ 1 ∷ 1 ∷ 0 ∷ 0 ∷ 0 ∷ []))
+    ∷ (oneGate ++ (0x47 ∷ 0x54 ∷ 0 ∷ 1 ∷ 1 ∷ 0 ∷ 0 ∷ 0 ∷ []))
+    ∷ (oneGate ++ (0x47 ∷ 0x54 ∷ 0 ∷ 0 ∷ 1 ∷ 0 ∷ 0 ∷ 0 ∷ []))
+    ∷ (oneGate ++ (0x47 ∷ 0x54 ∷ 1 ∷ 0 ∷ 1 ∷ 0 ∷ 0 ∷ 0 ∷ []))
+    ∷ []
+
+-- "12 under 8 bytes; 2; 3; 4; 13 N not 1 to 16; 5; 14 G not 1 to 8191; 15 under 8(G+1) bytes; then by gate 2 mark, 5 spare, 16 kind, 17 an operand against its kind"
+abbrev pub CheckOrder : Type 0
+CheckOrder =
+    map (λ bytes. number (checking bytes)) brokenTables ≡ 12 ∷ 2 ∷ 3 ∷ 4 ∷ 13 ∷ 5 ∷ 14 ∷ 15 ∷ 2 ∷ 5 ∷ 16 ∷ 17 ∷ []
+
+-- "Check's, then 18 left or right list not N long, 19 a value of p or more, 20 work buffer under G"
+abbrev pub RunOrder : Type 0
+RunOrder =
+    let run : List ℕ → List ℕ → List ℕ → ℕ = λ left right work. number (running (tableBytes lessTable) left right work .answer) in
+    run (3 ∷ []) [] [] ∷ run (3 ∷ []) (0 ∷ []) [] ∷ run (0 ∷ []) (3 ∷ []) [] ∷ run (0 ∷ []) (0 ∷ []) [] ∷ [] ≡ 18 ∷ 19 ∷ 19 ∷ 20 ∷ []

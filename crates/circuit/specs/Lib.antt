@@ -1,0 +1,19 @@
+-- Gate tables: gates and their bytes, what they mean, what Check, Trim and Run answer, and product trees.
+pub mod Bytes
+pub mod Constant
+pub mod Gate
+pub mod Table
+pub mod Meaning
+pub mod Value
+pub mod Depth
+pub mod Count
+pub mod Report
+pub mod Reading
+pub mod Outcomes
+pub mod Every
+pub mod Segment
+pub mod Tree
+pub mod ProductTree
+pub mod ListOrder
+pub mod Promises
+pub mod Bench
