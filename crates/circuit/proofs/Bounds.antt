@@ -35,7 +35,8 @@ module _ (p : ℕ) (left right : List ℕ) (some : 0 < p) (lefts : allBelow p le
   value-below E (Flip a) = residue-below p _ some
   value-below E (Mul a b) = residue-below p _ some
 
-  interpret-below : (earlier : List ℕ) (gs : List Gate) → allBelow p earlier ≡ true → allBelow p (interpret (values p left right) earlier gs) ≡ true
+  interpret-below : (earlier : List ℕ) (gs : List Gate) → allBelow p earlier ≡ true
+      → allBelow p (interpret (values p left right) earlier gs) ≡ true
   unfolding interpret allBelow
   interpret-below earlier [] h = h
   interpret-below earlier (g ∷ gs) h =

@@ -33,15 +33,19 @@ fields-small head k (Scale a b) p n l t =
 fields-small head k (Flip a) p n l t = omega (arith, ltb-true a k t)
 fields-small head k (Mul a b) p n l t = omega (arith, two-below a b k t)
 
+-- the two bytes of a u16
+u16-below : (x : ℕ) → x < 65536 → (ltb (x % 256) 256 ≡ true) × (ltb (x / 256) 256 ≡ true)
+u16-below x h = (lt-ltb (x % 256) 256 (omega arith), lt-ltb (x / 256) 256 (omega arith))
+
 gate-below : (g : Gate) → Small g → allBelow 256 (gateBytes g) ≡ true
 unfolding allBelow
 gate-below g s =
-    let kind : fields g .kind < 256 = s .0 in
-    let a : fields g .a < 65536 = s .1 in
-    let b : fields g .b < 65536 = s .2 in
-    rw (lt-ltb (fields g .kind) 256 kind, lt-ltb (fields g .a % 256) 256 (omega arith), lt-ltb (fields g .a / 256) 256 (omega arith), lt-ltb (fields g .b % 256) 256 (omega arith), lt-ltb (fields g .b / 256) 256 (omega arith))
+    let a = u16-below (fields g .a) (s .1) in
+    let b = u16-below (fields g .b) (s .2) in
+    rw (lt-ltb (fields g .kind) 256 (s .0), a .0, a .1, b .0, b .1)
 
-gates-below : (head : Head) (k : ℕ) (gs : List Gate) → head .prime ≤ 65536 → head .slots ≤ 65536 → k + length gs ≤ 65536 → allFit head k gs ≡ true → allBelow 256 (gatesBytes gs) ≡ true
+gates-below : (head : Head) (k : ℕ) (gs : List Gate) → head .prime ≤ 65536 → head .slots ≤ 65536 → k + length gs ≤ 65536
+    → allFit head k gs ≡ true → allBelow 256 (gatesBytes gs) ≡ true
 unfolding gatesBytes allBelow
 gates-below head k [] p n l t = refl
 gates-below head k (g ∷ gs) p n l t =
@@ -49,10 +53,12 @@ gates-below head k (g ∷ gs) p n l t =
     below-append 256 (gateBytes g) (gatesBytes gs) (gate-below g (fields-small head k g p n (omega arith) (s .0)))
     (gates-below head (suc k) gs p n (omega arith) (s .1))
 
-head-below : (head : Head) (count : ℕ) → head .prime < 256 → head .weight < 256 → head .slots < 256 → count < 65536 → allBelow 256 (headBytes head count) ≡ true
+head-below : (head : Head) (count : ℕ) → head .prime < 256 → head .weight < 256 → head .slots < 256 → count < 65536
+    → allBelow 256 (headBytes head count) ≡ true
 unfolding allBelow
 head-below head count p w n l =
-    rw (lt-ltb (head .prime) 256 p, lt-ltb (head .weight) 256 w, lt-ltb (head .slots) 256 n, lt-ltb (count % 256) 256 (omega arith), lt-ltb (count / 256) 256 (omega arith))
+    let g = u16-below count l in
+    rw (lt-ltb (head .prime) 256 p, lt-ltb (head .weight) 256 w, lt-ltb (head .slots) 256 n, g .0, g .1)
 
 pub table-below : TableBytes
 table-below table t =

@@ -12,8 +12,9 @@ use native.Mathlib.Nat.{le-refl, le-trans, le-of-lt, lt-of-not-le, suc-inj}
 use borrow.Author.Tests.{le-leb, lt-leb}
 use lib.ListN.{length}
 use Rattle.circuit.specs.Every.{Every}
-use Rattle.circuit.specs.ProductTree.{Choice, goesFirst, least, choose, times, InOrder, Precedes}
-use Rattle.circuit.specs.Promises.{LeastFirst}
+use Rattle.circuit.specs.Factors.{InOrder, Precedes}
+use Rattle.circuit.specs.ProductTree.{Choice, goesFirst, least, choose, times}
+use Rattle.circuit.specs.TreePromises.{LeastFirst}
 use Rattle.circuit.specs.Segment.{Node}
 use Rattle.circuit.proofs.Every.{every-map, every-map₂}
 use Rattle.circuit.proofs.Rearranged.{same-length, same-every, last-first}

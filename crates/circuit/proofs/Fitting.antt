@@ -38,7 +38,8 @@ named head k (Scale a b) t = ltb-true a k (both (ltb a k) (isConstant (head .pri
 named head k (Flip a) t = ltb-true a k t
 named head k (Mul a b) t = two-below a b k t
 
-pub fit-cons : (head : Head) (k : ℕ) (g : Gate) (gs : List Gate) → allFit head k (g ∷ gs) ≡ true → (fits head k g ≡ true) × (allFit head (suc k) gs ≡ true)
+pub fit-cons : (head : Head) (k : ℕ) (g : Gate) (gs : List Gate) → allFit head k (g ∷ gs) ≡ true
+    → (fits head k g ≡ true) × (allFit head (suc k) gs ≡ true)
 unfolding allFit
 fit-cons head k g gs t = both (fits head k g) (allFit head (suc k) gs) t
 

@@ -9,8 +9,8 @@ use lib.Pow.{pow-mono}
 use Rattle.field.specs.Sum.{total}
 use Rattle.field.proofs.Logarithm.{clog-iff}
 use Rattle.field.proofs.Sum.{total-append}
-use Rattle.circuit.specs.ProductTree.{breadth}
-use Rattle.circuit.specs.Promises.{NoShallower}
+use Rattle.circuit.specs.Factors.{breadth}
+use Rattle.circuit.specs.TreePromises.{NoShallower}
 use Rattle.circuit.specs.Segment.{Node}
 use Rattle.circuit.specs.Tree.{Tree, leaf, join, leaves, height}
 use Rattle.circuit.proofs.Rearranged.{same-breadth}

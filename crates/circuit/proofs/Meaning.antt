@@ -1,5 +1,6 @@
 -- The laws of the one interpretation: gates written one after the other, old entries kept, one entry for each gate.
--- From them, once: in the entries that a gate list leaves, each entry is the meaning of its gate (`solved`); so a fact about a piece of a circuit needs no word about the gates before or after it.
+-- From them, once: in the entries that a gate list leaves, each entry is the meaning of its gate (`solved`);
+-- so a fact about a piece of a circuit needs no word about the gates before or after it.
 -- Assumes nothing.
 use mathlib.Core.Path.{_≡_, refl, sym, ap, ap₂, subst, _∙_}
 use mathlib.Core.List.{List, [], _∷_, _++_}
@@ -19,7 +20,8 @@ module _ {A : Type 0} (alg : Algebra A) where
   next-length : (earlier : List A) (g : Gate) → length (next earlier g) ≡ suc (length earlier)
   next-length earlier g = simp length-append (omega arith)
 
-  pub interpret-append : (earlier : List A) (gs hs : List Gate) → interpret alg earlier (gs ++ hs) ≡ interpret alg (interpret alg earlier gs) hs
+  pub interpret-append : (earlier : List A) (gs hs : List Gate)
+      → interpret alg earlier (gs ++ hs) ≡ interpret alg (interpret alg earlier gs) hs
   unfolding interpret
   interpret-append earlier [] hs = refl
   interpret-append earlier (g ∷ gs) hs = interpret-append (next earlier g) gs hs
@@ -29,7 +31,8 @@ module _ {A : Type 0} (alg : Algebra A) where
   interpret-length earlier [] = omega arith
   interpret-length earlier (g ∷ gs) = omega (arith, interpret-length (next earlier g) gs, next-length earlier g)
 
-  pub kept : (earlier : List A) (gs : List Gate) (i : ℕ) → i < length earlier → entryOf alg (interpret alg earlier gs) i ≡ entryOf alg earlier i
+  pub kept : (earlier : List A) (gs : List Gate) (i : ℕ) → i < length earlier
+      → entryOf alg (interpret alg earlier gs) i ≡ entryOf alg earlier i
   unfolding interpret
   kept earlier [] i h = refl
   kept earlier (g ∷ gs) i h =
@@ -58,7 +61,8 @@ module _ {A : Type 0} (alg : Algebra A) where
   meaning-same E F k h (Flip a) n = ap (alg .flip) (h a n)
   meaning-same E F k h (Mul a b) n = ap₂ (alg .mul) (h a (n .0)) (h b (n .1))
 
-  pub solved : (gs : List Gate) (earlier : List A) (k : ℕ) → length earlier ≡ k → AllNamed k gs → Solves (entryOf alg (interpret alg earlier gs)) k gs
+  pub solved : (gs : List Gate) (earlier : List A) (k : ℕ) → length earlier ≡ k → AllNamed k gs
+      → Solves (entryOf alg (interpret alg earlier gs)) k gs
   unfolding interpret
   solved [] earlier k e n = tt
   solved (g ∷ gs) earlier k e n =

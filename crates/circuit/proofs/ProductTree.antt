@@ -15,8 +15,9 @@ use Rattle.circuit.specs.Depth.{depths}
 use Rattle.circuit.specs.Every.{Every}
 use Rattle.circuit.specs.Gate.{Gate}
 use Rattle.circuit.specs.Meaning.{Algebra, entryAt}
-use Rattle.circuit.specs.ProductTree.{multiply, productTree, InOrder, product}
-use Rattle.circuit.specs.Promises.{ProductValue, ProductDepth, ProductCount, ProductFits}
+use Rattle.circuit.specs.Factors.{InOrder, product}
+use Rattle.circuit.specs.ProductTree.{multiply, productTree}
+use Rattle.circuit.specs.TreePromises.{ProductValue, ProductDepth, ProductCount, ProductFits}
 use Rattle.circuit.specs.Segment.{Node}
 use Rattle.circuit.specs.Table.{Head, allFit}
 use Rattle.circuit.specs.Value.{values}

@@ -2,13 +2,13 @@
 -- All follow from what reading gives, in `proofs/Reading.antt`.
 -- Assumes nothing.
 use mathlib.Core.Path.{sym}
-use Prim.Native.Nat.{_+_, _-_, _*_, _≤_}
+use Prim.Native.Nat.{_+_, _-_, _*_}
 use native.Mathlib.Omega.{arith}
 use lib.ListN.{length, drop}
 use lib.Seq.{take-at}
 use Rattle.answer.proofs.Outcome.{answered, accepted-same}
 use Rattle.field.proofs.Tests.{in-range}
-use Rattle.circuit.specs.Promises.{ReadsBack, OnlyTables, ChecksTables, ChecksOnlyTables, TrimsTables, TrimsNothing, RunsTables, ReportBounds}
+use Rattle.circuit.specs.Promises.{ReadsBack, OnlyTables, ChecksTables, ChecksOnlyTables, TrimsTables, TrimsNothing, RunsTables, Bounded, ReportBounds}
 use Rattle.circuit.specs.Reading.{reading}
 use Rattle.circuit.specs.Report.{report}
 use Rattle.circuit.specs.Table.{Table, tableBytes, mostGates}
@@ -41,9 +41,7 @@ trims-nothing bytes number e = rw e
 pub runs-tables : RunsTables
 runs-tables table later left right work t = rw (reads-back table later t)
 
--- the bounds of a well-formed table's report
-bounds : (table : Table) → WellFormed table
-    → (report table .gates ≤ mostGates) × (report table .depth ≤ 8190) × (report table .cost ≤ 819100) × (report table .products + report table .squares ≤ report table .gates)
+bounds : (table : Table) → WellFormed table → Bounded (report table)
 bounds table w =
     let gates = table .gates in
     let count = in-range (length gates) 1 mostGates (w .count) in

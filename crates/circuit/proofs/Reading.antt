@@ -44,7 +44,8 @@ gate-back head k (Mul a b) t = rw (t, eq-eqb b b refl)
 read-gate : (head : Head) (k : ℕ) (g : Gate) (later : List ℕ) → fits head k g ≡ true → readGate head k (gateBytes g ++ later) ≡ accepted g
 read-gate head k g later t = rw (whole (fields g .a), whole (fields g .b)) (gate-back head k g t)
 
-read-gates : (head : Head) (k : ℕ) (gs : List Gate) (later : List ℕ) → allFit head k gs ≡ true → readGates head k (length gs) (gatesBytes gs ++ later) ≡ accepted gs
+read-gates : (head : Head) (k : ℕ) (gs : List Gate) (later : List ℕ) → allFit head k gs ≡ true
+    → readGates head k (length gs) (gatesBytes gs ++ later) ≡ accepted gs
 unfolding readGates gatesBytes
 read-gates head k [] later t = refl
 read-gates head k (g ∷ gs) later t =
@@ -89,7 +90,10 @@ read-table table later w =
     let count : ℕ = length (table .gates) in
     let size : length (tableBytes table ++ later) ≡ 8 * (count + 1) + length later
     = length-append (tableBytes table) later ∙ ap (λ (n : ℕ). n + length later) (length-table table) in
-    rw (le-ltb (length (tableBytes table ++ later)) 8 (omega arith), w .prime, w .weight, w .slots, whole count, w .count, le-ltb (length (tableBytes table ++ later)) (8 * (count + 1)) (omega arith), read-gates (table .head) 0 (table .gates) later (w .fitted))
+    let least = le-ltb (length (tableBytes table ++ later)) 8 (omega arith) in
+    let room = le-ltb (length (tableBytes table ++ later)) (8 * (count + 1)) (omega arith) in
+    let gates = read-gates (table .head) 0 (table .gates) later (w .fitted) in
+    rw (least, w .prime, w .weight, w .slots, whole count, w .count, room, gates)
 
 -- ---- from bytes to gates
 
@@ -103,7 +107,8 @@ abbrev Kinds : ℕ → ℕ → List Gate → Type 0
 Kinds n a [] = Unit {0}
 Kinds n a (g ∷ gs) = (fields g .kind ≡ suc n) × (fields g .a ≡ a) × Kinds (suc n) a gs
 
-numbered-fields : (n a kind : ℕ) (gs : List Gate) (g : Gate) → Kinds n a gs → numbered kind gs ≡ accepted g → (fields g .kind ≡ n + kind) × (fields g .a ≡ a)
+numbered-fields : (n a kind : ℕ) (gs : List Gate) (g : Gate) → Kinds n a gs → numbered kind gs ≡ accepted g
+    → (fields g .kind ≡ n + kind) × (fields g .a ≡ a)
 numbered-fields n a kind [] g o e = absurd (refused≢accepted e)
 numbered-fields n a zero (h ∷ hs) g o e = absurd (refused≢accepted e)
 numbered-fields n a (suc zero) (h ∷ hs) g o e =
@@ -256,19 +261,25 @@ gate-kept : (head : Head) (k : ℕ) (bytes later : List ℕ) → 8 ≤ length by
 gate-kept head k bytes later h =
     subst (λ (l : List ℕ). readGate head k (l ++ later) ≡ readGate head k l) (sym (eight bytes h)) refl
 
-gates-kept : (head : Head) (k count : ℕ) (bytes later : List ℕ) → 8 * count ≤ length bytes → readGates head k count (bytes ++ later) ≡ readGates head k count bytes
+gates-kept : (head : Head) (k count : ℕ) (bytes later : List ℕ) → 8 * count ≤ length bytes
+    → readGates head k count (bytes ++ later) ≡ readGates head k count bytes
 unfolding readGates
 gates-kept head k zero bytes later h = refl
 gates-kept head k (suc count) bytes later h =
     let room : 8 * count ≤ length (drop 8 bytes) = rw length-drop (omega arith) in
     rw (gate-kept head k bytes later (omega arith), drop-append-le 8 bytes later (omega arith), gates-kept head (suc k) count (drop 8 bytes) later room)
 
-byte-kept : (bytes later : List ℕ) (i : ℕ) → i < length bytes → byte (bytes ++ later) i ≡ byte bytes i
-byte-kept bytes later i h = List·getD-append bytes later 0 i h
+byte-kept : (bytes later : List ℕ) → 8 ≤ length bytes → (i : ℕ) → i < 8 → byte (bytes ++ later) i ≡ byte bytes i
+byte-kept bytes later h i l = List·getD-append bytes later 0 i (omega arith)
 
 pub later-bytes : LaterBytes
 later-bytes bytes later least room =
+    let same = byte-kept bytes later least in
     let size = length-append bytes later in
+    let some = le-ltb (length (bytes ++ later)) 8 (omega arith) in
+    let enough = le-ltb (length (bytes ++ later)) (8 * (countOf bytes + 1)) (omega arith) in
     let rest : 8 * countOf bytes ≤ length (drop 8 bytes) = rw length-drop (omega arith) in
-    rw (byte-kept bytes later 0 (omega arith), byte-kept bytes later 1 (omega arith), byte-kept bytes later 2 (omega arith), byte-kept bytes later 3 (omega arith), byte-kept bytes later 4 (omega arith), byte-kept bytes later 5 (omega arith), byte-kept bytes later 6 (omega arith), byte-kept bytes later 7 (omega arith))
-    (rw (le-ltb (length (bytes ++ later)) 8 (omega arith), le-ltb (length bytes) 8 least, le-ltb (length (bytes ++ later)) (8 * (countOf bytes + 1)) (omega arith), le-ltb (length bytes) (8 * (countOf bytes + 1)) room, drop-append-le 8 bytes later least, gates-kept (headOf bytes) 0 (countOf bytes) (drop 8 bytes) later rest))
+    let gates = gates-kept (headOf bytes) 0 (countOf bytes) (drop 8 bytes) later rest in
+    rw (same 0 (omega arith), same 1 (omega arith), same 2 (omega arith), same 3 (omega arith), same 4 (omega arith))
+    (rw (same 5 (omega arith), same 6 (omega arith), same 7 (omega arith), drop-append-le 8 bytes later least)
+    (rw (some, le-ltb (length bytes) 8 least, enough, le-ltb (length bytes) (8 * (countOf bytes + 1)) room, gates)))

@@ -9,7 +9,7 @@ use native.Mathlib.Nat.{add-left-comm, mul-left-comm}
 use lib.ListN.{length}
 use Rattle.field.specs.Sum.{total}
 use Rattle.circuit.specs.Every.{Every}
-use Rattle.circuit.specs.ProductTree.{breadth, product}
+use Rattle.circuit.specs.Factors.{breadth, product}
 use Rattle.circuit.specs.Segment.{Node}
 
 module _ {X : Type 0} where

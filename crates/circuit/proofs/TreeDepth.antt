@@ -14,7 +14,8 @@ use Rattle.field.specs.Logarithm.{clog}
 use Rattle.field.specs.Sum.{total}
 use Rattle.field.proofs.Logarithm.{clog-unique}
 use Rattle.circuit.specs.Every.{Every}
-use Rattle.circuit.specs.ProductTree.{multiply, productTree, breadth}
+use Rattle.circuit.specs.Factors.{breadth}
+use Rattle.circuit.specs.ProductTree.{multiply, productTree}
 use Rattle.circuit.specs.Segment.{Node}
 use Rattle.circuit.proofs.Choosing.{firstOf, secondOf, restOf, next, one-is, pair-is, next-same, next-length}
 use Rattle.circuit.proofs.Rearranged.{same-breadth}

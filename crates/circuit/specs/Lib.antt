@@ -14,6 +14,9 @@ pub mod Every
 pub mod Segment
 pub mod Tree
 pub mod ProductTree
-pub mod ListOrder
+pub mod Factors
 pub mod Promises
+pub mod TreePromises
+pub mod ListOrder
 pub mod Bench
+pub mod RefusalOrder

@@ -1,4 +1,5 @@
--- What a gate list means: each gate from the values of lower gates (source document 000, section 2). One reading serves all meanings, of which the value and the depth of a gate are two.
+-- What a gate list means: each gate from what the lower gates are (source document 000, section 2).
+-- One interpretation serves all meanings; the value and the depth of a gate are two of them.
 use Prim.Native.Nat.{ℕ, _-_}
 use mathlib.Core.List.{List, [], _∷_, _++_}
 use lib.ListN.{length, getD}

@@ -20,7 +20,8 @@ checking bytes = onAnswer (reading bytes) refused (λ table. accepted (report ta
 abbrev pub trimming : List ℕ → List ℕ
 trimming bytes = onAnswer (checking bytes) (λ number. []) (λ told. take (8 * (told .gates + 1)) bytes)
 
--- "18 left or right list not N long, 19 a value of p or more, 20 work buffer under G. The first G work bytes then hold the gate values, later ones are kept; the answer is the output."
+-- "18 left or right list not N long, 19 a value of p or more, 20 work buffer under G.
+-- The first G work bytes then hold the gate values, later ones are kept; the answer is the output."
 abbrev pub runningTable : List ℕ → List ℕ → List ℕ → Table → Outcome ℕ
 runningTable left right work table =
     let p = table .head .prime in

@@ -1,13 +1,12 @@
--- The product tree (document 01, "Writing one condition"; source document 000, section 4): "while two factors remain, MUL the two of least depth, equal depths by lower gate number, first chosen as a; the product is a new factor."
+-- The product tree (document 01, "Writing one condition"; source document 000, section 4):
+-- "while two factors remain, MUL the two of least depth, equal depths by lower gate number, first chosen as a; the product is a new factor."
 -- The factors are kept in gate order. A product has the highest number so far, so it goes to the end.
-use mathlib.Core.Path.{_≡_}
-use mathlib.Core.Logic.{_⊎_}
-use Prim.Native.Nat.{ℕ, zero, suc, _-_, _*_, _^_, _≤_, _<_, max}
+use Prim.Native.Nat.{ℕ, zero, suc, _-_}
 use mathlib.Core.Bool.{Bool, true, false}
-use mathlib.Core.List.{List, [], _∷_, _++_, map}
+use mathlib.Core.List.{List, [], _∷_, _++_}
 use lib.Dec.{leb}
 use lib.ListN.{length}
-use Rattle.field.specs.Sum.{total}
+use Rattle.circuit.specs.Depth.{depths}
 use Rattle.circuit.specs.Gate.{Mul}
 use Rattle.circuit.specs.Segment.{Node, Segment}
 
@@ -37,7 +36,7 @@ choose (x ∷ xs) = least x xs
 
 -- the product of two factors, written as gate number k
 abbrev pub times : ℕ → Node → Node → Node
-times k a b = record { gate = k; depth = suc (max (a .depth) (b .depth)) }
+times k a b = record { gate = k; depth = depths .mul (a .depth) (b .depth) }
 
 -- so many products, from gate number k on; then the factor that is left
 unfoldable pub multiply : ℕ → ℕ → List Node → Segment
@@ -51,21 +50,3 @@ multiply (suc n) k factors =
 -- "while two factors remain"
 abbrev pub productTree : ℕ → List Node → Segment
 productTree k factors = multiply (length factors - 1) k factors
-
--- the factors ascend by gate number, from gate i on and below gate k
-unfoldable pub InOrder : ℕ → ℕ → List Node → Type 0
-InOrder i k [] = i ≤ k
-InOrder i k (f ∷ fs) = (i ≤ f .gate) × InOrder (suc (f .gate)) k fs
-
--- "sum of 2^depth"
-abbrev pub breadth : List Node → ℕ
-breadth factors = total (map (λ f. 2 ^ f .depth) factors)
-
--- the product of the entries
-unfoldable pub product : List ℕ → ℕ
-product [] = 1
-product (x ∷ xs) = x * product xs
-
--- a comes before f: "least depth, equal depths by lower gate number"
-abbrev pub Precedes : Node → Node → Type 0
-Precedes a f = (a .depth < f .depth) ⊎ ((a .depth ≡ f .depth) × (a .gate < f .gate))

@@ -1,26 +1,20 @@
--- What is proved of gate tables, for every p and any number of gates.
--- Reading back is proved in `proofs/Promises.antt`, `proofs/Reading.antt` and `proofs/Bytes.antt`, the bounds in `proofs/Promises.antt` and `proofs/Bounds.antt`, product trees in `proofs/ProductTree.antt`, `proofs/Choosing.antt` and `proofs/Kraft.antt`.
+-- What is proved of gate tables, for every p and any number of gates: reading back and bounds.
+-- Proved in `proofs/Promises.antt`, `proofs/Reading.antt`, `proofs/Bytes.antt` and `proofs/Bounds.antt`.
 use mathlib.Core.Path.{_≡_}
 use mathlib.Core.Bool.{true}
-use mathlib.Core.List.{List, [], _∷_, _++_, map, List·Permᴰ}
-use Prim.Native.Nat.{ℕ, _+_, _-_, _*_, _%_, _≤_, _<_}
+use mathlib.Core.List.{List, [], _++_}
+use Prim.Native.Nat.{ℕ, _+_, _*_, _≤_, _<_}
 use lib.ListN.{length, drop}
 use Rattle.answer.specs.Outcome.{refused, accepted}
-use Rattle.field.specs.Logarithm.{clog}
 use Rattle.digits.specs.Number.{allBelow}
 use Rattle.circuit.specs.Count.{products, squares}
 use Rattle.circuit.specs.Depth.{depths}
-use Rattle.circuit.specs.Every.{Every}
-use Rattle.circuit.specs.Gate.{Gate, Mul}
-use Rattle.circuit.specs.ListOrder.{listOrder, uneven}
+use Rattle.circuit.specs.Gate.{Gate}
 use Rattle.circuit.specs.Meaning.{entries, entryAt}
 use Rattle.circuit.specs.Outcomes.{checking, trimming, runningTable, running}
-use Rattle.circuit.specs.ProductTree.{least, productTree, InOrder, breadth, product, Precedes}
 use Rattle.circuit.specs.Reading.{countOf, reading}
 use Rattle.circuit.specs.Report.{Report, report}
-use Rattle.circuit.specs.Segment.{Node}
 use Rattle.circuit.specs.Table.{Head, Table, tableBytes, allFit, wellFormed, mostGates}
-use Rattle.circuit.specs.Tree.{Tree, leaves, height}
 use Rattle.circuit.specs.Value.{values}
 
 -- ---- reading back
@@ -82,52 +76,11 @@ abbrev pub DepthsBelow : Type 0
 DepthsBelow =
     (head : Head) (gates : List Gate) (k : ℕ) → allFit head 0 gates ≡ true → k < length gates → entryAt depths gates k ≤ k
 
--- G ≤ 8191, depth ≤ 8190, cost ≤ 819,100
+-- the bounds of a report: G ≤ 8191, depth ≤ 8190, cost ≤ 819,100
+abbrev pub Bounded : Report → Type 0
+Bounded told =
+    (told .gates ≤ mostGates) × (told .depth ≤ 8190) × (told .cost ≤ 819100) × (told .products + told .squares ≤ told .gates)
+
+-- whatever Check answers keeps them
 abbrev pub ReportBounds : Type 0
-ReportBounds =
-    (bytes : List ℕ) (told : Report) → checking bytes ≡ accepted told
-    → (told .gates ≤ mostGates) × (told .depth ≤ 8190) × (told .cost ≤ 819100) × (told .products + told .squares ≤ told .gates)
-
--- ---- product trees
-
--- the factor chosen precedes all others: "least depth, equal depths by lower gate number"; and the others are what is left
-abbrev pub LeastFirst : Type 0
-LeastFirst =
-    (i k : ℕ) (x : Node) (xs : List Node) → InOrder i k (x ∷ xs)
-    → Every (Precedes (least x xs .chosen)) (least x xs .others) × List·Permᴰ (least x xs .chosen ∷ least x xs .others) (x ∷ xs)
-
--- over gates written before, the value is the product of the factors' values
-abbrev pub ProductValue : Type 0
-ProductValue =
-    (p : ℕ) (left right : List ℕ) (gates : List Gate) (factors : List Node) → 0 < p → 1 ≤ length factors → InOrder 0 (length gates) factors
-    → entryAt (values p left right) (gates ++ productTree (length gates) factors .gates) (productTree (length gates) factors .output .gate) % p
-    ≡ product (map (λ (f : Node). entryAt (values p left right) gates (f .gate)) factors) % p
-
--- the depth is ceil(log2(sum of 2^depth))
-abbrev pub ProductDepth : Type 0
-ProductDepth =
-    (gates : List Gate) (factors : List Node) → 1 ≤ length factors → InOrder 0 (length gates) factors
-    → Every (λ (f : Node). entryAt depths gates (f .gate) ≡ f .depth) factors
-    → entryAt depths (gates ++ productTree (length gates) factors .gates) (productTree (length gates) factors .output .gate) ≡ clog (breadth factors)
-
--- every tree of two-way products over the same factors, each used once, is at least that deep
-abbrev pub NoShallower : Type 0
-NoShallower =
-    (factors : List Node) (tree : Tree Node) → List·Permᴰ (leaves tree) factors → clog (breadth factors) ≤ height (λ (f : Node). f .depth) tree
-
--- one gate fewer than factors; all of them are products, none is a square
-abbrev pub ProductCount : Type 0
-ProductCount =
-    (k : ℕ) (factors : List Node) → 1 ≤ length factors → InOrder 0 k factors
-    → (length (productTree k factors .gates) ≡ length factors - 1) × (products (productTree k factors .gates) ≡ length factors - 1) × (squares (productTree k factors .gates) ≡ 0)
-
--- the gates name only lower gates
-abbrev pub ProductFits : Type 0
-ProductFits =
-    (head : Head) (k : ℕ) (factors : List Node) → 1 ≤ length factors → InOrder 0 k factors → allFit head k (productTree k factors .gates) ≡ true
-
--- paired in list order these factors take 4 levels, where the product tree takes 3
-abbrev pub ListOrderDeeper : Type 0
-ListOrderDeeper =
-    (listOrder 2 (map (λ (f : Node). f .depth) uneven) ≡ 4)
-    × (productTree 3 uneven ≡ record { gates = Mul 1 2 ∷ Mul 0 3 ∷ []; output = record { gate = 4; depth = 3 } })
+ReportBounds = (bytes : List ℕ) (told : Report) → checking bytes ≡ accepted told → Bounded told

@@ -1,4 +1,5 @@
--- Reading a table's bytes: the table, or the number of the first rule that they break, in the order of document 01, "Operations and what they turn away".
+-- Reading a table's bytes: the table, or the number of the first rule that they break
+-- (document 01, "Operations and what they turn away", Check).
 use Prim.Native.Nat.{ℕ, zero, suc, _+_, _*_}
 use mathlib.Core.Bool.{not, _&&_}
 use mathlib.Core.List.{List, [], _∷_}

@@ -1,0 +1,16 @@
+-- Refusals come in the order of document 01, by computing the definitions.
+-- Assumes nothing.
+use mathlib.Core.Path.{refl}
+use Rattle.field.specs.Primes.{member, primes, listed}
+use Rattle.digits.specs.Number.{allBelow}
+use Rattle.circuit.specs.Reading.{readGates}
+use Rattle.circuit.specs.RefusalOrder.{CheckOrder, RunOrder}
+use Rattle.circuit.specs.Table.{gatesBytes}
+
+pub check-order : CheckOrder
+unfolding listed member primes readGates
+check-order = refl
+
+pub run-order : RunOrder
+unfolding listed member primes allBelow gatesBytes readGates
+run-order = refl
