@@ -17,7 +17,7 @@ use Rattle.circuit.specs.Gate.{Gate, Left, Right, Add, Sub, Scale, Flip,
 use Rattle.circuit.specs.Promises.{TableBytes}
 use Rattle.circuit.specs.Table.{Head, headBytes, gatesBytes, mostGates, fits, allFit}
 use Rattle.circuit.proofs.Fitting.{two-below, fit-cons}
-use Rattle.circuit.proofs.Reading.{well-formed}
+use Rattle.circuit.proofs.WellFormed.{well-formed}
 
 -- the fields of a gate are a byte and two u16
 abbrev Small : Gate → Type 0

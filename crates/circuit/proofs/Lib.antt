@@ -1,7 +1,10 @@
 -- Laws that other crates cite.
 pub mod Fitting
+pub mod WellFormed
 pub mod Meaning
+pub mod Equations
 pub mod Reading
+pub mod Later
 pub mod Bytes
 pub mod Bounds
 pub mod Promises

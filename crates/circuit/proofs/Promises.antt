@@ -13,7 +13,8 @@ use Rattle.circuit.specs.Reading.{reading}
 use Rattle.circuit.specs.Report.{report}
 use Rattle.circuit.specs.Table.{Table, tableBytes, mostGates}
 use Rattle.circuit.proofs.Bounds.{depths-below, counts-below, cost-below}
-use Rattle.circuit.proofs.Reading.{length-table, WellFormed, well-formed, is-well-formed, read-table, reads, table-bytes}
+use Rattle.circuit.proofs.Reading.{length-table, read-table, reads, table-bytes}
+use Rattle.circuit.proofs.WellFormed.{WellFormed, well-formed, is-well-formed}
 
 pub reads-back : ReadsBack
 reads-back table later t = read-table table later (well-formed table t)

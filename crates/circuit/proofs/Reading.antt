@@ -1,16 +1,16 @@
 -- Reading bytes: a well-formed table's bytes read as that table, and whatever is read is such a table, byte for byte.
 -- A record's eight bytes and its gate determine each other; the gates follow by induction on the records, the head by its rules one at a time.
 -- Assumes nothing.
-use mathlib.Core.Path.{_≡_, refl, sym, ap, ap₂, subst, _∙_}
+use mathlib.Core.Path.{_≡_, refl, sym, ap, ap₂, _∙_}
 use mathlib.Core.Bool.{true, false, not, _&&_}
 use mathlib.Core.List.{List, [], _∷_, _++_}
 use Prim.Native.Nat.{ℕ, zero, suc, _+_, _*_, _/_, _%_, _≤_, _<_}
 use native.Mathlib.Omega.{arith}
 use native.Mathlib.Nat.{zero-add}
-use borrow.Author.Tests.{eq-eqb, le-ltb, eqb-true, ltb-false, not-true, not-false}
+use borrow.Author.Tests.{eq-eqb, le-ltb, eqb-true, ltb-false, not-false}
 use lib.Dec.{ltb, eqb}
-use lib.ListN.{length, drop, length-append, length-drop, List·getD-append}
-use lib.Seq.{drop-cons, drop-drop, drop-append-le}
+use lib.ListN.{length, drop, length-append, length-drop}
+use lib.Seq.{drop-cons, drop-drop}
 use Rattle.answer.specs.Outcome.{Answer, refused, accepted, onAnswer}
 use Rattle.answer.proofs.Outcome.{refused≢accepted, passed, answered, accepted-same}
 use Rattle.field.specs.Primes.{listed}
@@ -19,10 +19,10 @@ use Rattle.digits.specs.Number.{wrongCount, allBelow}
 use Rattle.digits.proofs.Number.{below-at, below-drop}
 use Rattle.circuit.specs.Bytes.{Mark, byte, wrongMark, u16At}
 use Rattle.circuit.specs.Gate.{Gate, Left, Right, Add, Sub, Scale, Flip, Mul, fields, numbered, kinds, gateOf, gateMark, gateBytes}
-use Rattle.circuit.specs.Promises.{LaterBytes}
 use Rattle.circuit.specs.Reading.{fitting, readGate, readGates, headOf, countOf, reading}
-use Rattle.circuit.specs.Table.{Head, Table, headMark, gatesBytes, tableBytes, wrongWeight, wrongGateCount, fits, allFit, wellFormed}
+use Rattle.circuit.specs.Table.{Head, Table, headMark, gatesBytes, tableBytes, wrongWeight, wrongGateCount, fits, allFit}
 use Rattle.circuit.proofs.Fitting.{fit-cons}
+use Rattle.circuit.proofs.WellFormed.{WellFormed}
 
 -- ---- from gates to bytes and back
 
@@ -59,31 +59,6 @@ length-gates (g ∷ gs) = omega (arith, length-gates gs)
 
 pub length-table : (table : Table) → length (tableBytes table) ≡ 8 * (length (table .gates) + 1)
 length-table table = omega (arith, length-gates (table .gates))
-
--- every rule that a well-formed table keeps
-pub record WellFormed (table : Table) : Type 0 where
-  pub prime : listed (table .head .prime) ≡ true
-  pub weight : wrongWeight (table .head .weight) ≡ false
-  pub slots : wrongCount (table .head .slots) ≡ false
-  pub count : wrongGateCount (length (table .gates)) ≡ false
-  pub fitted : allFit (table .head) 0 (table .gates) ≡ true
-
-pub well-formed : (table : Table) → wellFormed table ≡ true → WellFormed table
-well-formed table t =
-    let prime = both (listed (table .head .prime)) _ t in
-    let weight = both (not (wrongWeight (table .head .weight))) _ (prime .1) in
-    let slots = both (not (wrongCount (table .head .slots))) _ (weight .1) in
-    let count = both (not (wrongGateCount (length (table .gates)))) _ (slots .1) in
-    record {
-      prime = prime .0;
-      weight = not-true _ (weight .0);
-      slots = not-true _ (slots .0);
-      count = not-true _ (count .0);
-      fitted = count .1;
-    }
-
-pub is-well-formed : (table : Table) → WellFormed table → wellFormed table ≡ true
-is-well-formed table w = rw (w .prime, w .weight, w .slots, w .count, w .fitted)
 
 pub read-table : (table : Table) (later : List ℕ) → WellFormed table → reading (tableBytes table ++ later) ≡ accepted table
 read-table table later w =
@@ -148,7 +123,7 @@ says head k bytes g e =
     }
 
 -- eight bytes and those after them
-eight : (bytes : List ℕ) → 8 ≤ length bytes
+pub eight : (bytes : List ℕ) → 8 ≤ length bytes
     → bytes ≡ byte bytes 0 ∷ byte bytes 1 ∷ byte bytes 2 ∷ byte bytes 3 ∷ byte bytes 4 ∷ byte bytes 5 ∷ byte bytes 6 ∷ byte bytes 7 ∷ drop 8 bytes
 eight bytes h =
     drop-cons bytes 0 0 (omega arith)
@@ -254,32 +229,3 @@ table-bytes bytes table h r =
     let gates = gates-bytes (headOf bytes) 0 (countOf bytes) (drop 8 bytes) (table .gates) room (below-drop 256 bytes 8 h) (r .gates) in
     eight bytes (omega (arith, r .room))
     ∙ rw (size, ← drop-drop (8 * countOf bytes) 8 bytes, r .head, r .mark .0, r .mark .1, r .spare, count .0, count .1, ← gates)
-
--- ---- later bytes
-
-gate-kept : (head : Head) (k : ℕ) (bytes later : List ℕ) → 8 ≤ length bytes → readGate head k (bytes ++ later) ≡ readGate head k bytes
-gate-kept head k bytes later h =
-    subst (λ (l : List ℕ). readGate head k (l ++ later) ≡ readGate head k l) (sym (eight bytes h)) refl
-
-gates-kept : (head : Head) (k count : ℕ) (bytes later : List ℕ) → 8 * count ≤ length bytes
-    → readGates head k count (bytes ++ later) ≡ readGates head k count bytes
-unfolding readGates
-gates-kept head k zero bytes later h = refl
-gates-kept head k (suc count) bytes later h =
-    let room : 8 * count ≤ length (drop 8 bytes) = rw length-drop (omega arith) in
-    rw (gate-kept head k bytes later (omega arith), drop-append-le 8 bytes later (omega arith), gates-kept head (suc k) count (drop 8 bytes) later room)
-
-byte-kept : (bytes later : List ℕ) → 8 ≤ length bytes → (i : ℕ) → i < 8 → byte (bytes ++ later) i ≡ byte bytes i
-byte-kept bytes later h i l = List·getD-append bytes later 0 i (omega arith)
-
-pub later-bytes : LaterBytes
-later-bytes bytes later least room =
-    let same = byte-kept bytes later least in
-    let size = length-append bytes later in
-    let some = le-ltb (length (bytes ++ later)) 8 (omega arith) in
-    let enough = le-ltb (length (bytes ++ later)) (8 * (countOf bytes + 1)) (omega arith) in
-    let rest : 8 * countOf bytes ≤ length (drop 8 bytes) = rw length-drop (omega arith) in
-    let gates = gates-kept (headOf bytes) 0 (countOf bytes) (drop 8 bytes) later rest in
-    rw (same 0 (omega arith), same 1 (omega arith), same 2 (omega arith), same 3 (omega arith), same 4 (omega arith))
-    (rw (same 5 (omega arith), same 6 (omega arith), same 7 (omega arith), drop-append-le 8 bytes later least)
-    (rw (some, le-ltb (length bytes) 8 least, enough, le-ltb (length bytes) (8 * (countOf bytes + 1)) room, gates)))

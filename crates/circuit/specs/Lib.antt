@@ -15,6 +15,7 @@ pub mod Segment
 pub mod Tree
 pub mod ProductTree
 pub mod Factors
+pub mod Equations
 pub mod Promises
 pub mod TreePromises
 pub mod ListOrder

@@ -1,5 +1,5 @@
 -- What is proved of gate tables, for every p and any number of gates: reading back and bounds.
--- Proved in `proofs/Promises.antt`, `proofs/Reading.antt`, `proofs/Bytes.antt` and `proofs/Bounds.antt`.
+-- Proved in `proofs/Promises.antt`, `proofs/Later.antt`, `proofs/Bytes.antt` and `proofs/Bounds.antt`.
 use mathlib.Core.Path.{_≡_}
 use mathlib.Core.Bool.{true}
 use mathlib.Core.List.{List, [], _++_}
