@@ -13,7 +13,7 @@ use lib.ListN.{length}
 use Rattle.field.specs.Bit.{bit}
 use Rattle.field.proofs.Modular.{residue-below}
 use Rattle.digits.specs.Number.{allBelow}
-use Rattle.digits.proofs.Number.{below-any, below-append}
+use Rattle.digits.proofs.Number.{below-at, below-append}
 use Rattle.circuit.specs.Count.{isMul, count, products, squares, cost}
 use Rattle.circuit.specs.Depth.{depths}
 use Rattle.circuit.specs.Gate.{Gate, Left, Right, Add, Sub, Scale, Flip, Mul, fields}
@@ -27,8 +27,8 @@ use Rattle.circuit.proofs.Meaning.{Solves, solved}
 
 module _ (p : ℕ) (left right : List ℕ) (some : 0 < p) (lefts : allBelow p left ≡ true) (rights : allBelow p right ≡ true) where
   value-below : (E : ℕ → ℕ) (g : Gate) → meaning (values p left right) E g < p
-  value-below E (Left a) = below-any p left a some lefts
-  value-below E (Right a) = below-any p right a some rights
+  value-below E (Left a) = below-at p left a some lefts
+  value-below E (Right a) = below-at p right a some rights
   value-below E (Add a b) = residue-below p _ some
   value-below E (Sub a b) = residue-below p _ some
   value-below E (Scale a b) = residue-below p _ some

@@ -15,7 +15,7 @@ use Rattle.digits.proofs.Number.{below-append}
 use Rattle.circuit.specs.Constant.{isConstant}
 use Rattle.circuit.specs.Gate.{Gate, Left, Right, Add, Sub, Scale, Flip, Mul, fields, gateBytes}
 use Rattle.circuit.specs.Promises.{TableBytes}
-use Rattle.circuit.specs.Table.{Head, headBytes, gatesBytes, mostGates, fits, allFit}
+use Rattle.circuit.specs.Table.{Head, leftSlots, rightSlots, headBytes, gatesBytes, mostGates, fits, allFit}
 use Rattle.circuit.proofs.Fitting.{two-below, fit-cons}
 use Rattle.circuit.proofs.WellFormed.{well-formed}
 
@@ -23,15 +23,20 @@ use Rattle.circuit.proofs.WellFormed.{well-formed}
 abbrev Small : Gate → Type 0
 Small g = (fields g .kind < 256) × (fields g .a < 65536) × (fields g .b < 65536)
 
-fields-small : (head : Head) (k : ℕ) (g : Gate) → head .prime ≤ 65536 → head .slots ≤ 65536 → k ≤ 65536 → fits head k g ≡ true → Small g
-fields-small head k (Left a) p n l t = omega (arith, ltb-true a (head .slots) t)
-fields-small head k (Right a) p n l t = omega (arith, ltb-true a (head .slots) t)
-fields-small head k (Add a b) p n l t = omega (arith, two-below a b k t)
-fields-small head k (Sub a b) p n l t = omega (arith, two-below a b k t)
-fields-small head k (Scale a b) p n l t =
-    let s = both (ltb a k) (isConstant (head .prime) b) t in omega (arith, ltb-true a k (s .0), ltb-true b (head .prime) (s .1))
-fields-small head k (Flip a) p n l t = omega (arith, ltb-true a k t)
-fields-small head k (Mul a b) p n l t = omega (arith, two-below a b k t)
+-- the operands of a head and of gates up to number k
+abbrev Within : Head → ℕ → Type 0
+Within head k = (head .prime ≤ 65536) × (leftSlots head ≤ 65536) × (rightSlots head ≤ 65536) × (k ≤ 65536)
+
+fields-small : (head : Head) (k : ℕ) (g : Gate) → Within head k → fits head k g ≡ true → Small g
+fields-small head k (Left a) w t = omega (arith, w .1, ltb-true a (leftSlots head) t)
+fields-small head k (Right a) w t = omega (arith, w .2, ltb-true a (rightSlots head) t)
+fields-small head k (Add a b) w t = omega (arith, w .3, two-below a b k t)
+fields-small head k (Sub a b) w t = omega (arith, w .3, two-below a b k t)
+fields-small head k (Scale a b) w t =
+    let s = both (ltb a k) (isConstant (head .prime) b) t in
+    omega (arith, w .0, w .3, ltb-true a k (s .0), ltb-true b (head .prime) (s .1))
+fields-small head k (Flip a) w t = omega (arith, w .3, ltb-true a k t)
+fields-small head k (Mul a b) w t = omega (arith, w .3, two-below a b k t)
 
 -- the two bytes of a u16
 u16-below : (x : ℕ) → x < 65536 → (ltb (x % 256) 256 ≡ true) × (ltb (x / 256) 256 ≡ true)
@@ -44,14 +49,15 @@ gate-below g s =
     let b = u16-below (fields g .b) (s .2) in
     rw (lt-ltb (fields g .kind) 256 (s .0), a .0, a .1, b .0, b .1)
 
-gates-below : (head : Head) (k : ℕ) (gs : List Gate) → head .prime ≤ 65536 → head .slots ≤ 65536 → k + length gs ≤ 65536
-    → allFit head k gs ≡ true → allBelow 256 (gatesBytes gs) ≡ true
+gates-below : (head : Head) (k : ℕ) (gs : List Gate) → Within head (k + length gs) → allFit head k gs ≡ true
+    → allBelow 256 (gatesBytes gs) ≡ true
 unfolding gatesBytes allBelow
-gates-below head k [] p n l t = refl
-gates-below head k (g ∷ gs) p n l t =
+gates-below head k [] w t = refl
+gates-below head k (g ∷ gs) w t =
     let s = fit-cons head k g gs t in
-    below-append 256 (gateBytes g) (gatesBytes gs) (gate-below g (fields-small head k g p n (omega arith) (s .0)))
-    (gates-below head (suc k) gs p n (omega arith) (s .1))
+    let here = fields-small head k g (w .0, w .1, w .2, omega (arith, w .3)) (s .0) in
+    below-append 256 (gateBytes g) (gatesBytes gs) (gate-below g here)
+    (gates-below head (suc k) gs (w .0, w .1, w .2, omega (arith, w .3)) (s .1))
 
 head-below : (head : Head) (count : ℕ) → head .prime < 256 → head .weight < 256 → head .slots < 256 → count < 65536
     → allBelow 256 (headBytes head count) ≡ true
@@ -70,4 +76,4 @@ table-below table t =
     let count = in-range (length (table .gates)) 1 mostGates (w .count) in
     below-append 256 (headBytes head (length (table .gates))) (gatesBytes (table .gates))
     (head-below head (length (table .gates)) (omega arith) (omega arith) (omega arith) (omega arith))
-    (gates-below head 0 (table .gates) (omega arith) (omega arith) (omega arith) (w .fitted))
+    (gates-below head 0 (table .gates) (omega arith) (w .fitted))

@@ -4,7 +4,7 @@
 use mathlib.Core.Path.{_≡_, refl, sym, ap, ap₂, _∙_}
 use mathlib.Core.Bool.{true, false, not, _&&_}
 use mathlib.Core.List.{List, [], _∷_, _++_}
-use Prim.Native.Nat.{ℕ, zero, suc, _+_, _*_, _/_, _%_, _≤_, _<_}
+use Prim.Native.Nat.{ℕ, zero, suc, _+_, _*_, _/_, _%_, _≤_}
 use native.Mathlib.Omega.{arith}
 use native.Mathlib.Nat.{zero-add}
 use borrow.Author.Tests.{eq-eqb, le-ltb, eqb-true, ltb-false, not-false}
@@ -131,19 +131,19 @@ eight bytes h =
     (rw (drop-cons bytes 5 0 (omega arith), drop-cons bytes 6 0 (omega arith), drop-cons bytes 7 0 (omega arith)))
 
 -- the two bytes of a u16 that was read
-u16-bytes : (bytes : List ℕ) (i x : ℕ) → allBelow 256 bytes ≡ true → i + 1 < length bytes → x ≡ u16At bytes i
+u16-bytes : (bytes : List ℕ) (i x : ℕ) → allBelow 256 bytes ≡ true → x ≡ u16At bytes i
     → (x % 256 ≡ byte bytes i) × (x / 256 ≡ byte bytes (i + 1))
-u16-bytes bytes i x h l e =
-    let low = below-at 256 bytes i h (omega arith) in
-    let high = below-at 256 bytes (i + 1) h l in
+u16-bytes bytes i x h e =
+    let low = below-at 256 bytes i (omega arith) h in
+    let high = below-at 256 bytes (i + 1) (omega arith) h in
     (omega (arith, low, high), omega (arith, low, high))
 
 -- the bytes of a gate that was read
 gate-bytes : (head : Head) (k : ℕ) (bytes : List ℕ) (g : Gate) → 8 ≤ length bytes → allBelow 256 bytes ≡ true → Says head k bytes g
     → bytes ≡ gateBytes g ++ drop 8 bytes
 gate-bytes head k bytes g l h s =
-    let a = u16-bytes bytes 4 (fields g .a) h (omega arith) (s .a) in
-    let b = u16-bytes bytes 6 (fields g .b) h (omega arith) (s .b) in
+    let a = u16-bytes bytes 4 (fields g .a) h (s .a) in
+    let b = u16-bytes bytes 6 (fields g .b) h (s .b) in
     eight bytes l ∙ rw (s .mark .0, s .mark .1, s .spare, s .kind, a .0, a .1, b .0, b .1)
 
 -- the first gate, and the others
@@ -223,7 +223,7 @@ reads bytes table e =
 pub table-bytes : (bytes : List ℕ) (table : Table) → allBelow 256 bytes ≡ true → Reads bytes table
     → bytes ≡ tableBytes table ++ drop (8 * (length (table .gates) + 1)) bytes
 table-bytes bytes table h r =
-    let count = u16-bytes bytes 6 (length (table .gates)) h (omega (arith, r .room)) (r .count) in
+    let count = u16-bytes bytes 6 (length (table .gates)) h (r .count) in
     let size : 8 * (length (table .gates) + 1) ≡ 8 + 8 * countOf bytes = omega (arith, r .count) in
     let room : 8 * countOf bytes ≤ length (drop 8 bytes) = rw length-drop (omega (arith, r .room)) in
     let gates = gates-bytes (headOf bytes) 0 (countOf bytes) (drop 8 bytes) (table .gates) room (below-drop 256 bytes 8 h) (r .gates) in

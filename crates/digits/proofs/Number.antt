@@ -58,16 +58,11 @@ unfolding allBelow
 below-cons B d ds h =
     let s = both (ltb d B) (allBelow B ds) h in (ltb-true d B (s .0), s .1)
 
-pub below-at : (B : ℕ) (ds : List ℕ) (i : ℕ) → allBelow B ds ≡ true → i < length ds → getD ds i 0 < B
-below-at B [] i h l = absurd (omega arith)
-below-at B (d ∷ ds) zero h l = below-cons B d ds h .0
-below-at B (d ∷ ds) (suc i) h l = below-at B ds i (below-cons B d ds h .1) (omega arith)
-
 -- a digit that is not there reads as 0
-pub below-any : (B : ℕ) (ds : List ℕ) (i : ℕ) → 0 < B → allBelow B ds ≡ true → getD ds i 0 < B
-below-any B [] i p h = p
-below-any B (d ∷ ds) zero p h = below-cons B d ds h .0
-below-any B (d ∷ ds) (suc i) p h = below-any B ds i p (below-cons B d ds h .1)
+pub below-at : (B : ℕ) (ds : List ℕ) (i : ℕ) → 0 < B → allBelow B ds ≡ true → getD ds i 0 < B
+below-at B [] i p h = p
+below-at B (d ∷ ds) zero p h = below-cons B d ds h .0
+below-at B (d ∷ ds) (suc i) p h = below-at B ds i p (below-cons B d ds h .1)
 
 pub below-append : (B : ℕ) (ds es : List ℕ) → allBelow B ds ≡ true → allBelow B es ≡ true → allBelow B (ds ++ es) ≡ true
 unfolding allBelow

@@ -71,7 +71,7 @@ passes-requires : tie.Need-passes-requires Inv-loop μ-loop
 passes-requires c κs =
     let l = c .before .before in
     let s = l .before .before .before in
-    (div-add-mod' (2 ^ 64 - 1) (s .args .base), mod-lt (2 ^ 64 - 1) (s .pre .0), rw (c .wide .ensures .0) (below-at _ _ _ (s .pre .1) (omega arith)))
+    (div-add-mod' (2 ^ 64 - 1) (s .args .base), mod-lt (2 ^ 64 - 1) (s .pre .0), rw (c .wide .ensures .0) (below-at _ _ _ (s .pre .0) (s .pre .1)))
 
 returns : tie.Need-returns Inv-loop μ-loop
 returns c =
