@@ -1,10 +1,12 @@
--- Chains of refusals: what is accepted has passed every rule, one rule at a time; and an outcome that is known gives its answer and its lent bytes.
+-- Chains of refusals: what is accepted has passed every rule, one rule at a time; an outcome that is known gives its answer and its lent bytes;
+-- and an entry taken by its place is the one that stands there.
 -- Assumes nothing.
-use mathlib.Core.Path.{_≡_, refl, sym, ap, _∙_}
+use mathlib.Core.Path.{_≡_, refl, sym, ap, subst, _∙_}
 use mathlib.Core.Bool.{Bool, true, false}
-use Prim.Native.Nat.{ℕ}
+use mathlib.Core.List.{List, [], _∷_}
+use Prim.Native.Nat.{ℕ, zero, suc, _+_}
 use native.Mathlib.Omega.{arith}
-use Rattle.answer.specs.Outcome.{Answer, refused, accepted, Outcome, refuse, onAnswer}
+use Rattle.answer.specs.Outcome.{Answer, refused, accepted, Outcome, refuse, onAnswer, numbered}
 
 pub refused≢accepted : {A : Type 0} {k : ℕ} {a : A} → refused k ≡ accepted a → ⊥
 refused≢accepted e = let z : _≡_ {A = ℕ} 0 1 = cc in omega arith
@@ -26,3 +28,18 @@ answered (accepted a) later e = (a, refl, e)
 
 pub accepted-same : {A : Type 0} {a b : A} → accepted a ≡ accepted b → a ≡ b
 accepted-same e = cc
+
+-- a fact of each entry and its place, the first of them after place n
+abbrev pub Places : {A : Type 0} → (ℕ → A → Type 0) → ℕ → List A → Type 0
+Places P n [] = Unit {0}
+Places P n (a ∷ more) = P (suc n) a × Places P (suc n) more
+
+pub numbered-is : {A : Type 0} (P : ℕ → A → Type 0) (n refusal place : ℕ) (entries : List A) (a : A) → Places P n entries
+    → numbered refusal place entries ≡ accepted a → P (n + place) a
+numbered-is P n refusal place [] a known e = absurd (refused≢accepted e)
+numbered-is P n refusal zero (b ∷ more) a known e = absurd (refused≢accepted e)
+numbered-is P n refusal (suc zero) (b ∷ more) a known e =
+    let here : suc n ≡ n + 1 = omega arith in subst (P (n + 1)) (accepted-same e) (subst (λ (m : ℕ). P m b) here (known .0))
+numbered-is P n refusal (suc (suc place)) (b ∷ more) a known e =
+    let here : suc n + suc place ≡ n + suc (suc place) = omega arith in
+    subst (λ (m : ℕ). P m a) here (numbered-is P (suc n) refusal (suc place) more a (known .1) e)

@@ -1,7 +1,7 @@
 -- What an operation answers and what it leaves in the bytes lent to it.
-use Prim.Native.Nat.{ℕ}
+use Prim.Native.Nat.{ℕ, zero, suc}
 use mathlib.Core.Bool.{Bool, true, false}
-use mathlib.Core.List.{List}
+use mathlib.Core.List.{List, [], _∷_}
 
 -- a refusal's number and nothing else, or the operation's values
 pub data Answer (A : Type 0) : Type 0 where
@@ -26,3 +26,10 @@ refuse false refusal later = later
 abbrev pub onAnswer : {A R : Type 0} → Answer A → (ℕ → R) → (A → R) → R
 onAnswer (refused number) refusal later = refusal number
 onAnswer (accepted a) refusal later = later a
+
+-- the entry at a place of a list, counting from 1, or the refusal of a place that it has not
+abbrev pub numbered : {A : Type 0} → ℕ → ℕ → List A → Answer A
+numbered refusal place [] = refused refusal
+numbered refusal zero (a ∷ more) = refused refusal
+numbered refusal (suc zero) (a ∷ more) = accepted a
+numbered refusal (suc (suc place)) (a ∷ more) = numbered refusal (suc place) more

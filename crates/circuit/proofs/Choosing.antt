@@ -41,11 +41,11 @@ unfolding InOrder
 order-lower i j k [] l h = le-trans l h
 order-lower i j k (f ∷ fs) l h = (le-trans l (h .0), h .1)
 
--- a product, written as gate k, has the highest number so far and goes to the end
-order-append : (i k : ℕ) (factors : List Node) (a b : Node) → InOrder i k factors → InOrder i (suc k) (factors ++ (times k a b ∷ []))
+-- a later gate goes to the end
+pub order-append : (i k m : ℕ) (factors : List Node) (f : Node) → InOrder i k factors → k ≤ f .gate → f .gate < m → InOrder i m (factors ++ (f ∷ []))
 unfolding InOrder
-order-append i k [] a b h = (h, le-refl _)
-order-append i k (f ∷ fs) a b h = (h .0, order-append (suc (f .gate)) k fs a b (h .1))
+order-append i k m [] f h low high = (omega arith, high)
+order-append i k m (g ∷ gs) f h low high = (h .0, order-append (suc (g .gate)) k m gs f (h .1) low high)
 
 -- ---- the choice
 
@@ -169,7 +169,8 @@ pair-is n factors e =
       low = same-every _ (b .same) (b .low) .1;
       named = λ k h. let bounds = same-every _ parts (order-every 0 k factors h) in (bounds .0 .1, bounds .1 .0 .1);
       apart = λ k h. same-every _ (b .same) (a .first 0 k h) .0 .1;
-      order = λ k h. order-append 0 k (restOf factors) (firstOf factors) (secondOf factors) (b .order 0 k (a .order 0 k h));
+      order = λ k h.
+          order-append 0 k (suc k) (restOf factors) (times k (firstOf factors) (secondOf factors)) (b .order 0 k (a .order 0 k h)) (le-refl _) (le-refl _);
     }
 
 pub next-same : (k : ℕ) (factors : List Node) → List·Permᴰ (next k factors) (times k (firstOf factors) (secondOf factors) ∷ restOf factors)

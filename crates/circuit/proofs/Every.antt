@@ -1,7 +1,7 @@
--- Laws of facts of every entry of a list: from one fact to another, and equal entries one by one.
+-- Laws of facts of every entry of a list: from one fact to another, of lists put together, and equal entries one by one.
 -- Assumes nothing.
 use mathlib.Core.Path.{_≡_, refl, ap₂}
-use mathlib.Core.List.{List, [], _∷_, map}
+use mathlib.Core.List.{List, [], _∷_, _++_, map}
 use Rattle.circuit.specs.Every.{Every}
 
 module _ {X : Type 0} where
@@ -16,3 +16,11 @@ module _ {X : Type 0} where
   pub map-same : {Y : Type 0} (F G : X → Y) (xs : List X) → Every (λ x. F x ≡ G x) xs → map F xs ≡ map G xs
   map-same F G [] h = refl
   map-same F G (x ∷ xs) h = ap₂ _∷_ (h .0) (map-same F G xs (h .1))
+
+  pub every-append : (P : X → Type 0) (xs ys : List X) → Every P xs → Every P ys → Every P (xs ++ ys)
+  every-append P [] ys h k = k
+  every-append P (x ∷ xs) ys h k = (h .0, every-append P xs ys (h .1) k)
+
+  pub every-last : (P : X → Type 0) (xs : List X) (x : X) → Every P (xs ++ (x ∷ [])) → P x
+  every-last P [] x h = h .0
+  every-last P (y ∷ ys) x h = every-last P ys x (h .1)

@@ -1,15 +1,17 @@
--- The rules of gates as facts: that a gate names only lower gates, which `fits` and `allFit` test, as inequalities, for `omega` to use.
+-- The rules of gates as facts, which `fits` and `allFit` test, as inequalities, for `omega` to use: that a gate names only lower gates, and that it fits whole.
 -- Assumes nothing.
-use mathlib.Core.Path.{_≡_}
+use mathlib.Core.Path.{_≡_, refl}
 use mathlib.Core.Bool.{true, _&&_}
-use mathlib.Core.List.{List, [], _∷_}
-use Prim.Native.Nat.{ℕ, suc, _<_}
-use borrow.Author.Tests.{ltb-true}
+use mathlib.Core.List.{List, [], _∷_, _++_}
+use Prim.Native.Nat.{ℕ, suc, _+_, _<_}
+use native.Mathlib.Nat.{add-zero, add-suc, suc-add}
+use borrow.Author.Tests.{ltb-true, lt-ltb}
 use lib.Dec.{ltb}
+use lib.ListN.{length}
 use Rattle.field.proofs.Tests.{both}
 use Rattle.circuit.specs.Constant.{isConstant}
 use Rattle.circuit.specs.Gate.{Gate, Left, Right, Add, Sub, Scale, Flip, Mul}
-use Rattle.circuit.specs.Table.{Head, fits, allFit}
+use Rattle.circuit.specs.Table.{Head, leftSlots, rightSlots, fits, allFit}
 
 -- gate number k names only lower gates
 abbrev pub Named : ℕ → Gate → Type 0
@@ -46,3 +48,45 @@ fit-cons head k g gs t = both (fits head k g) (allFit head (suc k) gs) t
 pub all-named : (head : Head) (k : ℕ) (gs : List Gate) → allFit head k gs ≡ true → AllNamed k gs
 all-named head k [] t = tt
 all-named head k (g ∷ gs) t = let s = fit-cons head k g gs t in (named head k g (s .0), all-named head (suc k) gs (s .1))
+
+-- ---- from facts to tests
+
+-- gate number k keeps every rule
+abbrev pub Fitted : Head → ℕ → Gate → Type 0
+Fitted head k (Left a) = a < leftSlots head
+Fitted head k (Right a) = a < rightSlots head
+Fitted head k (Add a b) = (a < k) × (b < k)
+Fitted head k (Sub a b) = (a < k) × (b < k)
+Fitted head k (Scale a b) = (a < k) × (isConstant (head .prime) b ≡ true)
+Fitted head k (Flip a) = a < k
+Fitted head k (Mul a b) = (a < k) × (b < k)
+
+-- gates of which the first has number k
+abbrev pub AllFitted : Head → ℕ → List Gate → Type 0
+AllFitted head k [] = Unit {0}
+AllFitted head k (g ∷ gs) = Fitted head k g × AllFitted head (suc k) gs
+
+two-fit : (a b k : ℕ) → (a < k) × (b < k) → (ltb a k && ltb b k) ≡ true
+two-fit a b k h = rw (lt-ltb a k (h .0), lt-ltb b k (h .1))
+
+pub one-fits : (head : Head) (k : ℕ) (g : Gate) → Fitted head k g → fits head k g ≡ true
+one-fits head k (Left a) h = lt-ltb _ _ h
+one-fits head k (Right a) h = lt-ltb _ _ h
+one-fits head k (Add a b) h = two-fit a b k h
+one-fits head k (Sub a b) h = two-fit a b k h
+one-fits head k (Scale a b) h = rw (lt-ltb a k (h .0)) (h .1)
+one-fits head k (Flip a) h = lt-ltb _ _ h
+one-fits head k (Mul a b) h = two-fit a b k h
+
+pub all-fit : (head : Head) (k : ℕ) (gs : List Gate) → AllFitted head k gs → allFit head k gs ≡ true
+unfolding allFit
+all-fit head k [] h = refl
+all-fit head k (g ∷ gs) h = rw (one-fits head k g (h .0)) (all-fit head (suc k) gs (h .1))
+
+-- gates after gates
+pub fit-append : (head : Head) (k : ℕ) (gs hs : List Gate) → allFit head k gs ≡ true → allFit head (k + length gs) hs ≡ true
+    → allFit head k (gs ++ hs) ≡ true
+unfolding allFit
+fit-append head k [] hs t u = rw add-zero at u
+fit-append head k (g ∷ gs) hs t u =
+    let s = fit-cons head k g gs t in rw (s .0) (fit-append head (suc k) gs hs (s .1) (rw (add-suc, ← suc-add) at u))

@@ -1,4 +1,5 @@
 -- Laws that other crates cite.
+pub mod Constant
 pub mod Fitting
 pub mod WellFormed
 pub mod Meaning
@@ -7,6 +8,7 @@ pub mod Reading
 pub mod Later
 pub mod Bytes
 pub mod Bounds
+pub mod Count
 pub mod Promises
 pub mod Bench
 pub mod RefusalOrder

@@ -3,20 +3,20 @@
 -- Assumes nothing.
 use mathlib.Core.Path.{_≡_, refl, sym, ap, ap₂, _∙_}
 use mathlib.Core.Bool.{true}
-use mathlib.Core.List.{List, _++_, map, Permᴰ·map}
+use mathlib.Core.List.{List, [], _∷_, _++_, map, Permᴰ·map}
 use Prim.Native.Nat.{ℕ, zero, suc, _+_, _-_, _*_, _%_, _≤_, _<_, max}
 use native.Mathlib.Omega.{arith}
 use native.Mathlib.Nat.{mul-one, mul-assoc}
 use borrow.Author.Tests.{lt-ltb, ne-eqb}
-use lib.ListN.{length}
-use Rattle.field.proofs.Modular.{mod-same, mod-mul, mulMod-is}
+use lib.ListN.{length, length-append}
+use Rattle.field.proofs.Modular.{mod-same, mod-mul, mulMod-is, residue-below}
 use Rattle.circuit.specs.Count.{count, isProduct, isSquare}
 use Rattle.circuit.specs.Depth.{depths}
 use Rattle.circuit.specs.Every.{Every}
 use Rattle.circuit.specs.Gate.{Gate}
 use Rattle.circuit.specs.Meaning.{Algebra, entryAt}
 use Rattle.circuit.specs.Factors.{InOrder, product}
-use Rattle.circuit.specs.ProductTree.{multiply, productTree}
+use Rattle.circuit.specs.ProductTree.{least, multiply, productTree}
 use Rattle.circuit.specs.TreePromises.{ProductValue, ProductDepth, ProductCount, ProductFits}
 use Rattle.circuit.specs.Segment.{Node}
 use Rattle.circuit.specs.Table.{Head, allFit}
@@ -45,6 +45,28 @@ tree-named k factors some h = multiply-named (length factors - 1) k factors (ome
 pub tree-output : (k : ℕ) (factors : List Node) → 1 ≤ length factors → InOrder 0 k factors
     → productTree k factors .output .gate < k + (length factors - 1)
 tree-output k factors some h = multiply-named (length factors - 1) k factors (omega arith) h .1
+
+-- of a single factor at the end of a list, that one is chosen
+pub left-over : (factors : List Node) (f : Node) → length (factors ++ (f ∷ [])) ≡ 1 → firstOf (factors ++ (f ∷ [])) ≡ f
+unfolding least
+left-over [] f e = refl
+left-over (g ∷ gs) f e = absurd (omega (arith, length-append gs (f ∷ [])))
+
+multiply-last : (n k : ℕ) (factors : List Node) → length factors ≡ suc (suc n) → multiply (suc n) k factors .output .gate ≡ k + n
+unfolding multiply
+multiply-last zero k factors e =
+    ap (λ (f : Node). f .gate) (left-over (restOf factors) _ (next-length zero k factors e)) ∙ omega arith
+multiply-last (suc n) k factors e = multiply-last n (suc k) (next k factors) (next-length (suc n) k factors e) ∙ omega arith
+
+-- the output is the last gate before number k + (c - 1): the last product, or a single factor that is the last gate before k
+pub tree-last : (k : ℕ) (factors : List Node) → 1 ≤ length factors → (length factors ≡ 1 → suc (firstOf factors .gate) ≡ k)
+    → suc (productTree k factors .output .gate) ≡ k + (length factors - 1)
+unfolding multiply
+tree-last k factors some single = go (length factors - 1) (omega arith)
+  where
+    go : (n : ℕ) → length factors ≡ suc n → suc (multiply n k factors .output .gate) ≡ k + n
+    go zero e = omega (arith, single e)
+    go (suc n) e = omega (arith, multiply-last n k factors e)
 
 multiply-fit : (head : Head) (n k : ℕ) (factors : List Node) → length factors ≡ suc n → InOrder 0 k factors
     → allFit head k (multiply n k factors .gates) ≡ true
@@ -101,6 +123,17 @@ multiply-value p left right E (suc n) k factors some e h =
     ∙ mod-same p (ap (λ (x : ℕ). x * rest) (h .0 ∙ mulMod-is p a b some))
     ∙ mod-mul (a * b) rest p
     ∙ mod-same p (mul-assoc a b rest ∙ same-product (Permᴰ·map value (pair-is n factors e .same)))
+
+-- it is a remainder where the factors' values are
+pub multiply-below : (p : ℕ) (left right : List ℕ) (E : ℕ → ℕ) (n k : ℕ) (factors : List Node) → 0 < p → length factors ≡ suc n
+    → Solves (values p left right) E k (multiply n k factors .gates) → Every (λ (f : Node). E (f .gate) < p) factors
+    → E (multiply n k factors .output .gate) < p
+unfolding multiply
+multiply-below p left right E zero k factors some e h below = same-every _ (one-is factors e) below .0
+multiply-below p left right E (suc n) k factors some e h below =
+    let old = same-every _ (pair-is n factors e .same) below in
+    multiply-below p left right E n (suc k) (next k factors) some (next-length n k factors e) (h .1)
+    (same-every _ (next-same k factors) (rw (h .0) (residue-below p _ some), old .1 .1))
 
 -- where the factors' depths are their entries, so is the output's
 pub multiply-entry : (E : ℕ → ℕ) (n k : ℕ) (factors : List Node) → length factors ≡ suc n

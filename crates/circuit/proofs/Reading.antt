@@ -12,13 +12,13 @@ use lib.Dec.{ltb, eqb}
 use lib.ListN.{length, drop, length-append, length-drop}
 use lib.Seq.{drop-cons, drop-drop}
 use Rattle.answer.specs.Outcome.{Answer, refused, accepted, onAnswer}
-use Rattle.answer.proofs.Outcome.{refused≢accepted, passed, answered, accepted-same}
+use Rattle.answer.proofs.Outcome.{passed, answered, accepted-same, Places, numbered-is}
 use Rattle.field.specs.Primes.{listed}
 use Rattle.field.proofs.Tests.{both, neither}
 use Rattle.digits.specs.Number.{wrongCount, allBelow}
 use Rattle.digits.proofs.Number.{below-at, below-drop}
 use Rattle.circuit.specs.Bytes.{Mark, byte, wrongMark, u16At}
-use Rattle.circuit.specs.Gate.{Gate, Left, Right, Add, Sub, Scale, Flip, Mul, fields, numbered, kinds, gateOf, gateMark, gateBytes}
+use Rattle.circuit.specs.Gate.{Gate, Left, Right, Add, Sub, Scale, Flip, Mul, fields, kinds, gateOf, gateMark, gateBytes}
 use Rattle.circuit.specs.Reading.{fitting, readGate, readGates, headOf, countOf, reading}
 use Rattle.circuit.specs.Table.{Head, Table, headMark, gatesBytes, tableBytes, wrongWeight, wrongGateCount, fits, allFit}
 use Rattle.circuit.proofs.Fitting.{fit-cons}
@@ -72,26 +72,16 @@ read-table table later w =
 
 -- ---- from bytes to gates
 
-mark-is : (mark : Mark) (bytes : List ℕ) → wrongMark mark bytes ≡ false → (byte bytes 0 ≡ mark .opening) × (byte bytes 1 ≡ mark .closing)
+pub mark-is : (mark : Mark) (bytes : List ℕ) → wrongMark mark bytes ≡ false → (byte bytes 0 ≡ mark .opening) × (byte bytes 1 ≡ mark .closing)
 mark-is mark bytes t =
     let s = neither (not (eqb (byte bytes 0) (mark .opening))) (not (eqb (byte bytes 1) (mark .closing))) t in
     (eqb-true _ _ (not-false _ (s .0)), eqb-true _ _ (not-false _ (s .1)))
 
--- gates over a, of the kinds after kind n in their order
-abbrev Kinds : ℕ → ℕ → List Gate → Type 0
-Kinds n a [] = Unit {0}
-Kinds n a (g ∷ gs) = (fields g .kind ≡ suc n) × (fields g .a ≡ a) × Kinds (suc n) a gs
+-- a gate of a kind, over a
+abbrev IsKind : ℕ → ℕ → Gate → Type 0
+IsKind a kind g = (fields g .kind ≡ kind) × (fields g .a ≡ a)
 
-numbered-fields : (n a kind : ℕ) (gs : List Gate) (g : Gate) → Kinds n a gs → numbered kind gs ≡ accepted g
-    → (fields g .kind ≡ n + kind) × (fields g .a ≡ a)
-numbered-fields n a kind [] g o e = absurd (refused≢accepted e)
-numbered-fields n a zero (h ∷ hs) g o e = absurd (refused≢accepted e)
-numbered-fields n a (suc zero) (h ∷ hs) g o e =
-    let same : h ≡ g = accepted-same e in (omega (arith, o .0, ap (λ g. fields g .kind) same), cc)
-numbered-fields n a (suc (suc kind)) (h ∷ hs) g o e =
-    let s = numbered-fields (suc n) a (suc kind) hs g (o .2) e in (omega (arith, s .0), s .1)
-
-in-order : (a b : ℕ) → Kinds 0 a (kinds a b)
+in-order : (a b : ℕ) → Places (IsKind a) 0 (kinds a b)
 in-order a b = omega arith
 
 -- what a record says whose gate was read
@@ -112,7 +102,7 @@ says head k bytes g e =
     let operand = passed answer (not (fits head k (kind .0) && eqb (u16At bytes 6) (fields (kind .0) .b))) (refused 17) _ refl (kind .2) in
     let same : kind .0 ≡ g = accepted-same (operand .1) in
     let fitted = both (fits head k (kind .0)) (eqb (u16At bytes 6) (fields (kind .0) .b)) (not-false _ (operand .0)) in
-    let told = numbered-fields 0 (u16At bytes 4) (byte bytes 2) (kinds (u16At bytes 4) (u16At bytes 6)) (kind .0) (in-order (u16At bytes 4) (u16At bytes 6)) (kind .1) in
+    let told = numbered-is (IsKind (u16At bytes 4)) 0 16 (byte bytes 2) (kinds (u16At bytes 4) (u16At bytes 6)) (kind .0) (in-order (u16At bytes 4) (u16At bytes 6)) (kind .1) in
     record {
       mark = mark-is gateMark bytes (mark .0);
       spare = eqb-true _ _ (not-false _ (spare .0));

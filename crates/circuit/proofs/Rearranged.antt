@@ -30,7 +30,7 @@ module _ {X : Type 0} where
   pub last-first : (xs : List X) (x : X) → List·Permᴰ (xs ++ (x ∷ [])) (x ∷ xs)
   last-first xs x = List·Permᴰ·trans (Permᴰ·middle x xs []) (List·Permᴰ·cons refl (Permᴰ·append-nil xs))
 
-same-total : {xs ys : List ℕ} → List·Permᴰ xs ys → total xs ≡ total ys
+pub same-total : {xs ys : List ℕ} → List·Permᴰ xs ys → total xs ≡ total ys
 unfolding total
 same-total List·Permᴰ·nil = refl
 same-total (List·Permᴰ·cons e rest) = ap₂ _+_ e (same-total rest)

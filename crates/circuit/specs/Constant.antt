@@ -9,3 +9,7 @@ isConstant p b = ltb b p
 -- the number of the field that a constant's b stands for
 abbrev pub constant : ℕ → ℕ → ℕ
 constant p b = b
+
+-- the b by which a number below p is written
+abbrev pub code : ℕ → ℕ → ℕ
+code p c = c

@@ -1,7 +1,7 @@
 -- The gates (document 01, "Gate table"): one constructor for each kind.
-use Prim.Native.Nat.{ℕ, zero, suc}
+use Prim.Native.Nat.{ℕ}
 use mathlib.Core.List.{List, [], _∷_}
-use Rattle.answer.specs.Outcome.{Answer, refused, accepted}
+use Rattle.answer.specs.Outcome.{Answer, numbered}
 use Rattle.circuit.specs.Bytes.{Mark, marked, u16}
 
 pub data Gate : Type 0 where
@@ -39,20 +39,13 @@ fields (Scale a b) = row 5 a b
 fields (Flip a) = row 6 a 0
 fields (Mul a b) = row 7 a b
 
--- the gate that stands at a kind's number, counting from 1, or 16
-abbrev pub numbered : ℕ → List Gate → Answer Gate
-numbered kind [] = refused 16
-numbered zero (g ∷ gs) = refused 16
-numbered (suc zero) (g ∷ gs) = accepted g
-numbered (suc (suc kind)) (g ∷ gs) = numbered (suc kind) gs
-
 -- the gates over a and b, in the order of their kinds
 abbrev pub kinds : ℕ → ℕ → List Gate
 kinds a b = Left a ∷ Right a ∷ Add a b ∷ Sub a b ∷ Scale a b ∷ Flip a ∷ Mul a b ∷ []
 
 -- the gate of a kind over a and b, or 16
 abbrev pub gateOf : ℕ → ℕ → ℕ → Answer Gate
-gateOf kind a b = numbered kind (kinds a b)
+gateOf kind a b = numbered 16 kind (kinds a b)
 
 -- the byte pair 0x47 0x54
 abbrev pub gateMark : Mark

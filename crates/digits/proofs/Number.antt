@@ -36,6 +36,10 @@ number-cons B d ds =
     (sum-same (length ds) _ _ (λ j l. omega (arith, ap (λ (t : ℕ). getD ds j 0 * t) (pow-succ' B j)))
     ∙ sum-mul (length ds) B (λ j. getD ds j 0 * B ^ j))
 
+-- one digit
+pub number-one : (B d : ℕ) → number B (d ∷ []) ≡ d
+number-one B d = omega (arith, number-cons B d [], ap (λ (t : ℕ). B * t) (number-nil B))
+
 -- low digits, and B^(their count) times the high ones
 pub number-append : (B : ℕ) (low high : List ℕ) → number B (low ++ high) ≡ number B low + B ^ length low * number B high
 number-append B [] high = omega (arith, number-nil B, ap (λ (t : ℕ). t * number B high) (pow-zero B))
@@ -69,6 +73,13 @@ unfolding allBelow
 below-append B [] es h k = k
 below-append B (d ∷ ds) es h k =
     let s = below-cons B d ds h in rw (lt-ltb d B (s .0)) (below-append B ds es (s .1) k)
+
+-- a larger bound
+pub below-weaken : (B C : ℕ) (ds : List ℕ) → B ≤ C → allBelow B ds ≡ true → allBelow C ds ≡ true
+unfolding allBelow
+below-weaken B C [] l h = refl
+below-weaken B C (d ∷ ds) l h =
+    let s = below-cons B d ds h in rw (lt-ltb d C (omega (arith, s .0))) (below-weaken B C ds l (s .1))
 
 pub below-drop : (B : ℕ) (ds : List ℕ) (i : ℕ) → allBelow B ds ≡ true → allBelow B (drop i ds) ≡ true
 below-drop B ds zero h = h

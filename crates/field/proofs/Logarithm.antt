@@ -1,19 +1,19 @@
 -- flog and clog are the floor and the ceiling of log2: 2 ^ d ≤ n exactly where d ≤ flog n, for n above 0, and n ≤ 2 ^ d exactly where clog n ≤ d.
 -- Each law says the logarithm whole, so that whatever has the law is the logarithm; the steps by halves follow.
 -- Assumes nothing.
-use mathlib.Core.Path.{_≡_, refl, sym}
+use mathlib.Core.Path.{_≡_, refl, sym, ap, _∙_}
 use mathlib.Core.Logic.{_↔_}
 use mathlib.Core.Bool.{Bool, true, false, not}
-use Prim.Native.Nat.{ℕ, zero, suc, _+_, _/_, _^_, _≤_, _<_, zero-le}
+use Prim.Native.Nat.{ℕ, zero, suc, _+_, _*_, _/_, _^_, _≤_, _<_, zero-le}
 use native.Mathlib.Omega.{arith}
-use native.Mathlib.Nat.{le-antisymm, le-trans, le-refl}
+use native.Mathlib.Nat.{le-antisymm, le-trans, le-refl, le-of-lt, lt-of-not-le, pow-succ', mul-pos}
 use lib.Dec.{T, leb, leb→le, nleb→lt}
 use lib.Pow.{pow-pos}
 use Rattle.field.specs.Logarithm.{flogIn, flog, clogIn, clog}
 
-le-pow-self : (n : ℕ) → n ≤ 2 ^ n
-le-pow-self zero = zero-le
-le-pow-self (suc n) = omega (arith, le-pow-self n, pow-pos n)
+lt-pow-self : (n : ℕ) → n < 2 ^ n
+lt-pow-self zero = omega arith
+lt-pow-self (suc n) = omega (arith, lt-pow-self n)
 
 -- ---- the ceiling
 
@@ -33,7 +33,7 @@ clogIn-iff (suc most) n d h =
 
 pub clog-iff : (n d : ℕ) → (n ≤ 2 ^ d) ↔ (clog n ≤ d)
 unfolding clog
-clog-iff n d = clogIn-iff n n d (le-pow-self n)
+clog-iff n d = clogIn-iff n n d (le-of-lt (lt-pow-self n))
 
 -- whatever has the law is clog
 pub clog-unique : (n c : ℕ) → ((d : ℕ) → (n ≤ 2 ^ d) ↔ (c ≤ d)) → c ≡ clog n
@@ -49,6 +49,27 @@ clog-half n h =
 
 pub clog-mono : {m n : ℕ} → m ≤ n → clog m ≤ clog n
 clog-mono {m} {n} h = clog-iff m (clog n) .0 (le-trans h (clog-iff n (clog n) .1 (le-refl _)))
+
+-- above one power of two, and at most the next
+pub clog-between : (n j : ℕ) → 2 ^ j < n → n ≤ 2 ^ suc j → clog n ≡ suc j
+clog-between n j l h = le-antisymm (clog-iff n (suc j) .0 h) (lt-of-not-le (λ c. omega (arith, clog-iff n j .1 c)))
+
+-- of a power of two
+pub clog-power : (j : ℕ) → clog (2 ^ j) ≡ j
+clog-power zero = clog-small 1 (le-refl 1)
+clog-power (suc j) = clog-between (2 ^ suc j) j (omega (arith, pow-pos j)) (le-refl _)
+
+-- twice, and then 2^d times: one level more for each factor 2
+pub clog-twice : (n : ℕ) → 1 ≤ n → clog (2 * n) ≡ suc (clog n)
+clog-twice n some =
+    let e : (2 * n + 1) / 2 ≡ n = omega arith in rw e at (clog-half (2 * n) (omega arith))
+
+pub clog-factor : (d n : ℕ) → 1 ≤ n → clog (2 ^ d * n) ≡ d + clog n
+clog-factor zero n some =
+    let same : 2 ^ 0 * n ≡ n = omega arith in ap clog same ∙ omega arith
+clog-factor (suc d) n some =
+    let same : 2 ^ suc d * n ≡ 2 * (2 ^ d * n) = omega (arith, ap (λ (t : ℕ). t * n) (pow-succ' 2 d)) in
+    ap clog same ∙ clog-twice (2 ^ d * n) (mul-pos (pow-pos d) some) ∙ omega (arith, clog-factor d n some)
 
 -- ---- the floor
 
@@ -69,7 +90,7 @@ flogIn-iff (suc most) n d p h =
 
 pub flog-iff : (n d : ℕ) → 0 < n → (2 ^ d ≤ n) ↔ (d ≤ flog n)
 unfolding flog
-flog-iff n d p = flogIn-iff n n d p (omega (arith, le-pow-self n, pow-pos n))
+flog-iff n d p = flogIn-iff n n d p (omega (arith, lt-pow-self n))
 
 -- whatever has the law is flog
 pub flog-unique : (n f : ℕ) → 0 < n → ((d : ℕ) → (2 ^ d ≤ n) ↔ (d ≤ f)) → f ≡ flog n
@@ -86,3 +107,6 @@ pub flog-half : (n : ℕ) → 2 ≤ n → flog n ≡ suc (flog (n / 2))
 flog-half n h =
     sym (flog-unique n _ (omega arith) (λ d.
     flog-step n (flog (n / 2)) (omega arith) (λ l e. flog-iff (n / 2) e (omega arith)) false (λ t. absurd t) (λ t. h) d))
+
+pub flog-less : (n : ℕ) → 1 ≤ n → flog n < n
+flog-less n some = omega (arith, lt-pow-self (flog n), flog-iff n (flog n) some .1 (le-refl _))

@@ -134,6 +134,10 @@ subMod-is p a b h =
     residue-is p _ h ∙ simp (residue-is p b h)
     (minus-product p a (b % p) (le-of-lt (mod-lt b h)) h ∙ add-cong p a a _ _ refl (mul-mod (p - 1) b p))
 
+-- what is subtracted counts modulo p
+pub sub-cong : (p a b c : ℕ) → 0 < p → b % p ≡ c % p → subMod p a b ≡ subMod p a c
+sub-cong p a b c h e = ap (λ (r : ℕ). residue p (a + (p - r))) (residue-is p b h ∙ e ∙ sym (residue-is p c h))
+
 -- subMod is subtraction: what it gives, added to b, is a
 pub sub-add : (p a b : ℕ) → 0 < p → (subMod p a b + b) % p ≡ a % p
 sub-add p a b h =

@@ -6,10 +6,11 @@
 -- Assumes nothing.
 use mathlib.Core.Path.{_≡_, refl, sym, ap, ap₂, _∙_}
 use mathlib.Core.Logic.{_≢_}
+use mathlib.Core.Bool.{Bool, true, false}
 use mathlib.Core.List.{[], _∷_, map, map-append}
 use Prim.Native.Nat.{ℕ, zero, suc, _+_, _-_, _*_, _/_, _%_, _^_, _≤_, _<_}
 use native.Mathlib.Omega.{arith}
-use native.Mathlib.Nat.{mod-eq-of-lt, zero-mod, mod-self, pow-zero, pow-succ', mul-comm, add-comm, add-zero, mul-zero, zero-mul}
+use native.Mathlib.Nat.{mod-lt, mod-eq-of-lt, zero-mod, mod-self, pow-zero, pow-succ', mul-comm, add-comm, add-zero, mul-zero, zero-mul}
 use native.Mathlib.Numerals.{one-add}
 use native.Mathlib.Decide.{decLe}
 use borrow.Author.Tests.{ne-eqb, eq-eqb, lt-ltb, le-ltb}
@@ -36,6 +37,16 @@ zero-test p z prime l = subMod-is p 1 (z ^ (p - 1)) (omega arith) ∙ go z l
         let small : suc z % p ≡ suc z = mod-eq-of-lt l in
         rw (ne-eqb (suc z) 0 (λ e. omega arith))
         (minus-zero p 1 (suc z ^ (p - 1)) (omega arith) .1 (mod-eq-of-lt (prime .two) ∙ sym (fermat-one p (suc z) prime (omega arith))))
+
+-- ---- the constants
+
+pub constant-below : (p i : ℕ) → 2 ≤ p → orderConstant p i < p
+unfolding orderConstant
+constant-below p i two = go (eqb i (p - 1))
+  where
+    go : (t : Bool) → (elim t as (λ _. ℕ) [ true ↦ (p + 1) / 2 | false ↦ sum ((p - 1) / 2) (λ b. suc b ^ (p - 1 - i)) % p ]) < p
+    go true = omega arith
+    go false = mod-lt _ (omega arith)
 
 -- ---- a sum over every second number
 

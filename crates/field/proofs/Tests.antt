@@ -20,6 +20,10 @@ pub in-range : (x low high : ℕ) → (ltb x low || ltb high x) ≡ false → (l
 in-range x low high t =
     let s = neither (ltb x low) (ltb high x) t in (ltb-false x low (s .0), ltb-false high x (s .1))
 
+-- and back
+pub in-range-false : (x low high : ℕ) → low ≤ x → x ≤ high → (ltb x low || ltb high x) ≡ false
+in-range-false x low high l h = rw (le-ltb x low l, le-ltb high x h)
+
 pub ltb-same : (a b c d : ℕ) → (a < b → c < d) → (b ≤ a → d ≤ c) → ltb a b ≡ ltb c d
 ltb-same a b c d less more = go (ltb a b) refl
   where

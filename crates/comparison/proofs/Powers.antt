@@ -1,0 +1,168 @@
+-- The powers of an order digit: each is written at its place, names only powers below it, is the power that it stands for, and is clog of its exponent deep.
+-- Over any entries that solve the gates a power is the product of the powers of its halves (`low-step`, `odd-step`, `last-step`);
+-- values and depths follow by halving the exponent.
+-- Assumes nothing.
+use mathlib.Core.Path.{_≡_, sym, ap, _∙_}
+use mathlib.Core.Logic.{_⊎_, inl, inr}
+use mathlib.Core.List.{List, [], _∷_, _++_, map}
+use Prim.Native.Nat.{ℕ, zero, suc, _+_, _-_, _*_, _/_, _%_, _^_, _≤_, _<_}
+use native.Mathlib.Omega.{arith}
+use native.Mathlib.Decide.{decLe}
+use native.Mathlib.Nat.{lt-of-not-le, mod-mod, pow-suc, pow-zero, one-mul}
+use borrow.Author.Tests.{le-leb, lt-leb}
+use lib.ListN.{length, length-map, length-append, getD}
+use lib.Pow.{pow-add}
+use Rattle.field.specs.Logarithm.{clog}
+use Rattle.field.proofs.Logarithm.{clog-half, clog-small, clog-mono}
+use Rattle.field.proofs.Modular.{mod-same, mul-cong, mulMod-is}
+use Rattle.circuit.specs.Depth.{depths}
+use Rattle.circuit.specs.Meaning.{Algebra, meaning}
+use Rattle.circuit.specs.Value.{values}
+use Rattle.circuit.proofs.Meaning.{Solves, solves-append}
+use Rattle.comparison.specs.OrderDigit.{half, lowExponents, oddExponents, lowPower, powerOf, powers, powerCount, powerGate}
+use Rattle.comparison.proofs.Mapped.{solves-map, length-ascending, ascending-at, length-second, second-at}
+
+-- the exponents above (p-1)/2 that are written: odd ones up to p - 2, and p - 1
+abbrev pub Asked : ℕ → ℕ → Type 0
+Asked p i = ((i % 2 ≡ 1) × (i < p - 1)) ⊎ (i ≡ p - 1)
+
+pub asked-top : (p i : ℕ) → Asked p i → i ≤ p - 1
+asked-top p i (inl o) = omega (arith, o .1)
+asked-top p i (inr e) = omega arith
+
+-- their halves are powers up to (p-1)/2
+halves-low : (p i : ℕ) → p % 2 ≡ 1 → Asked p i → (i + 1) / 2 ≤ half p
+halves-low p i odd (inl o) = omega (arith, o .0, o .1)
+halves-low p i odd (inr e) = omega arith
+
+-- ---- where they stand
+
+pub gate-low : (p z i : ℕ) → i ≤ half p → powerGate p z i ≡ lowPower z i
+unfolding powerGate
+gate-low p z i l = rw (le-leb i (half p) l, powerGate)
+
+pub gate-high : (p z i : ℕ) → half p < i → powerGate p z i ≡ z + half p + (i / 2 - (half p + 1) / 2)
+unfolding powerGate
+gate-high p z i l = rw (lt-leb i (half p) l, powerGate)
+
+pub low-length : (p z : ℕ) → length (map (powerOf z) (lowExponents p)) ≡ half p - 1
+low-length p z = length-map (lowExponents p) (powerOf z) ∙ length-ascending (half p - 1) 2
+
+pub odd-length : (p z : ℕ) → length (map (powerOf z) (oddExponents p)) ≡ half p / 2
+odd-length p z = length-map (oddExponents p) (powerOf z) ∙ length-second (half p / 2) _
+
+pub powers-length : (p z : ℕ) → 3 ≤ p → length (powers p z) ≡ powerCount p
+powers-length p z three =
+    length-append (map (powerOf z) (lowExponents p)) _
+    ∙ omega (arith, low-length p z, odd-length p z, length-append (map (powerOf z) (oddExponents p)) (powerOf z (p - 1) ∷ []))
+
+-- ---- what they are, over any entries
+
+module _ {A : Type 0} (alg : Algebra A) (E : ℕ → A) (p z : ℕ) (three : 3 ≤ p) (odd : p % 2 ≡ 1) (h : Solves alg E (suc z) (powers p z)) where
+  -- the product of the powers of the halves
+  abbrev halved : ℕ → A
+  halved i = alg .mul (E (lowPower z (i / 2))) (E (lowPower z ((i + 1) / 2)))
+
+  after-low : Solves alg E (z + half p) (map (powerOf z) (oddExponents p) ++ (powerOf z (p - 1) ∷ []))
+  after-low =
+      let e : suc z + length (map (powerOf z) (lowExponents p)) ≡ z + half p = omega (arith, low-length p z) in
+      rw e at (solves-append alg E (map (powerOf z) (lowExponents p)) _ (suc z) h .1)
+
+  low-step : (i : ℕ) → 2 ≤ i → i ≤ half p → E (lowPower z i) ≡ halved i
+  low-step i two l =
+      let m = i - 2 in
+      let place : m < length (lowExponents p) = omega (arith, length-ascending (half p - 1) 2) in
+      let e : getD (lowExponents p) m 0 ≡ i = ascending-at (half p - 1) 2 m (omega arith) ∙ omega arith in
+      ap E (omega arith)
+      ∙ solves-map alg E (powerOf z) (lowExponents p) (suc z)
+      (solves-append alg E (map (powerOf z) (lowExponents p)) _ (suc z) h .0) m place
+      ∙ ap (λ (x : ℕ). meaning alg E (powerOf z x)) e
+
+  odd-step : (i : ℕ) → i % 2 ≡ 1 → half p < i → i < p - 1 → E (powerGate p z i) ≡ halved i
+  odd-step i o l u =
+      let first = half p + 1 + half p % 2 in
+      let m = (i - first) / 2 in
+      let place : m < length (oddExponents p) = omega (arith, length-second (half p / 2) first) in
+      let e : getD (oddExponents p) m 0 ≡ i = second-at (half p / 2) first m (omega arith) ∙ omega arith in
+      ap E (gate-high p z i l ∙ omega arith)
+      ∙ solves-map alg E (powerOf z) (oddExponents p) (z + half p)
+      (solves-append alg E (map (powerOf z) (oddExponents p)) _ (z + half p) after-low .0) m place
+      ∙ ap (λ (x : ℕ). meaning alg E (powerOf z x)) e
+
+  last-step : E (powerGate p z (p - 1)) ≡ halved (p - 1)
+  last-step =
+      ap E (gate-high p z (p - 1) (omega arith) ∙ omega (arith, odd-length p z))
+      ∙ solves-append alg E (map (powerOf z) (oddExponents p)) _ (z + half p) after-low .1 .0
+
+  -- those above (p-1)/2 that are written
+  high-step : (i : ℕ) → Asked p i → half p < i → E (powerGate p z i) ≡ halved i
+  high-step i (inl o) l = odd-step i (o .0) l (o .1)
+  high-step i (inr e) l = rw e last-step
+
+-- ---- values
+
+module _ (left right : List ℕ) (E : ℕ → ℕ) (p z : ℕ) (three : 3 ≤ p) (odd : p % 2 ≡ 1)
+    (h : Solves (values p left right) E (suc z) (powers p z)) where
+  -- a product of two powers of z
+  power-mul : (a b i : ℕ) (x y : ℕ) → a + b ≡ i → x % p ≡ (E z ^ a) % p → y % p ≡ (E z ^ b) % p
+      → values p left right .mul x y % p ≡ (E z ^ i) % p
+  power-mul a b i x y e hx hy =
+      mod-same p (mulMod-is p x y (omega arith)) ∙ mod-mod (x * y) p
+      ∙ mul-cong p x (E z ^ a) y (E z ^ b) hx hy
+      ∙ mod-same p (sym (pow-add (E z) a b) ∙ ap (λ (n : ℕ). E z ^ n) e)
+
+  low-value : (most i : ℕ) → i ≤ most → 1 ≤ i → i ≤ half p → E (lowPower z i) % p ≡ (E z ^ i) % p
+  low-value zero i m one l = absurd (omega arith)
+  low-value (suc most) zero m one l = absurd (omega arith)
+  low-value (suc most) (suc zero) m one l =
+      mod-same p (ap E (omega arith) ∙ sym (pow-suc (E z) 0 ∙ ap (λ (n : ℕ). n * E z) (pow-zero (E z)) ∙ one-mul (E z)))
+  low-value (suc most) (suc (suc j)) m one l =
+      let i = suc (suc j) in
+      mod-same p (low-step (values p left right) E p z three odd h i (omega arith) l)
+      ∙ power-mul (i / 2) ((i + 1) / 2) i _ _ (omega arith)
+      (low-value most (i / 2) (omega arith) (omega arith) (omega arith))
+      (low-value most ((i + 1) / 2) (omega arith) (omega arith) (omega arith))
+
+  pub power-value : (i : ℕ) → 1 ≤ i → Asked p i → E (powerGate p z i) % p ≡ (E z ^ i) % p
+  power-value i one asked = go (decLe i (half p))
+    where
+      go : Dec (i ≤ half p) → E (powerGate p z i) % p ≡ (E z ^ i) % p
+      go (yes l) = rw (gate-low p z i l) (low-value i i (omega arith) one l)
+      go (no n) =
+          let top : i ≤ p - 1 = asked-top p i asked in
+          mod-same p (high-step (values p left right) E p z three odd h i asked (lt-of-not-le n))
+          ∙ power-mul (i / 2) ((i + 1) / 2) i _ _ (omega arith)
+          (low-value (i / 2) (i / 2) (omega arith) (omega arith) (omega arith))
+          (low-value ((i + 1) / 2) ((i + 1) / 2) (omega arith) (omega arith) (halves-low p i odd asked))
+
+-- ---- depths
+
+module _ (E : ℕ → ℕ) (p z : ℕ) (three : 3 ≤ p) (odd : p % 2 ≡ 1) (h : Solves depths E (suc z) (powers p z)) (flat : E z ≡ 0) where
+  -- a product of the halves
+  power-deep : (i x y : ℕ) → 2 ≤ i → x ≡ clog (i / 2) → y ≡ clog ((i + 1) / 2) → depths .mul x y ≡ clog i
+  power-deep i x y two hx hy =
+      let shallow : clog (i / 2) ≤ clog ((i + 1) / 2) = clog-mono (omega arith) in
+      omega (arith, clog-half i two)
+
+  low-depth : (most i : ℕ) → i ≤ most → 1 ≤ i → i ≤ half p → E (lowPower z i) ≡ clog i
+  low-depth zero i m one l = absurd (omega arith)
+  low-depth (suc most) zero m one l = absurd (omega arith)
+  low-depth (suc most) (suc zero) m one l = ap E (omega arith) ∙ flat ∙ sym (clog-small 1 (omega arith))
+  low-depth (suc most) (suc (suc j)) m one l =
+      let i = suc (suc j) in
+      low-step depths E p z three odd h i (omega arith) l
+      ∙ power-deep i _ _ (omega arith)
+      (low-depth most (i / 2) (omega arith) (omega arith) (omega arith))
+      (low-depth most ((i + 1) / 2) (omega arith) (omega arith) (omega arith))
+
+  pub power-depth : (i : ℕ) → 1 ≤ i → Asked p i → E (powerGate p z i) ≡ clog i
+  power-depth i one asked = go (decLe i (half p))
+    where
+      go : Dec (i ≤ half p) → E (powerGate p z i) ≡ clog i
+      go (yes l) = rw (gate-low p z i l) (low-depth i i (omega arith) one l)
+      go (no n) =
+          let top : i ≤ p - 1 = asked-top p i asked in
+          high-step depths E p z three odd h i asked (lt-of-not-le n)
+          ∙ power-deep i _ _ (omega arith)
+          (low-depth (i / 2) (i / 2) (omega arith) (omega arith) (omega arith))
+          (low-depth ((i + 1) / 2) ((i + 1) / 2) (omega arith) (omega arith) (halves-low p i odd asked))

@@ -1,0 +1,80 @@
+-- The order digit (document 01, "Writing one condition"): the powers of z, the sum L of its terms, and E.
+use Prim.Native.Nat.{ℕ, zero, suc, _+_, _-_, _/_, _%_}
+use mathlib.Core.Bool.{true, false}
+use mathlib.Core.List.{List, [], _∷_, _++_, map}
+use lib.Dec.{leb}
+use Rattle.field.specs.Polynomials.{everySecond, orderExponents, orderConstant}
+use Rattle.circuit.specs.Constant.{code}
+use Rattle.circuit.specs.Gate.{Gate, Add, Scale, Flip, Mul}
+use Rattle.comparison.specs.Difference.{zGate}
+
+-- (p-1)/2
+abbrev pub half : ℕ → ℕ
+half p = (p - 1) / 2
+
+-- i, i + 1, ..: n numbers
+unfoldable pub ascending : ℕ → ℕ → List ℕ
+ascending zero i = []
+ascending (suc n) i = i ∷ ascending n (suc i)
+
+-- "powers z^i ascending for i = 2 to (p-1)/2"
+abbrev pub lowExponents : ℕ → List ℕ
+lowExponents p = ascending (half p - 1) 2
+
+-- "then the odd i above that to p-2"
+abbrev pub oddExponents : ℕ → List ℕ
+oddExponents p = everySecond (half p / 2) (half p + 1 + half p % 2)
+
+-- the gate of z^i for i up to (p-1)/2: they follow z
+abbrev pub lowPower : ℕ → ℕ → ℕ
+lowPower z i = z + (i - 1)
+
+-- "Even i squares z^(i/2); odd i is MUL(z^((i-1)/2), z^((i+1)/2))."
+abbrev pub powerOf : ℕ → ℕ → Gate
+powerOf z i = Mul (lowPower z (i / 2)) (lowPower z ((i + 1) / 2))
+
+-- "then p-1"
+abbrev pub powers : ℕ → ℕ → List Gate
+powers p z = map (powerOf z) (lowExponents p) ++ (map (powerOf z) (oddExponents p) ++ (powerOf z (p - 1) ∷ []))
+
+-- how many gates they are
+abbrev pub powerCount : ℕ → ℕ
+powerCount p = half p + half p / 2
+
+-- the gate of z^i, i up to (p-1)/2 or odd or p-1
+unfoldable pub powerGate : ℕ → ℕ → ℕ → ℕ
+powerGate p z i =
+    elim (leb i (half p)) [ true ↦ lowPower z i | false ↦ z + half p + (i / 2 - (half p + 1) / 2) ]
+
+-- "a SCALE of z^i by c_i"
+abbrev pub term : ℕ → ℕ → ℕ → Gate
+term p z i = Scale (powerGate p z i) (code p (orderConstant p i))
+
+-- terms after the first, each "followed by ADD(sum, it)": from gate number k on, over the gate of the sum so far
+unfoldable pub laterTerms : ℕ → ℕ → ℕ → ℕ → List ℕ → List Gate
+laterTerms p z k sum [] = []
+laterTerms p z k sum (i ∷ is) = term p z i ∷ Add sum k ∷ laterTerms p z (suc (suc k)) (suc k) is
+
+abbrev pub terms : ℕ → ℕ → ℕ → List ℕ → List Gate
+terms p z k [] = []
+terms p z k (i ∷ is) = term p z i ∷ laterTerms p z (suc k) k is
+
+-- the first gate of the terms, over the difference whose first gate is number k
+abbrev pub termStart : ℕ → ℕ → ℕ
+termStart p k = suc (zGate k) + powerCount p
+
+-- powers and terms: "for i = 1, 3, .. p-2, p-1"
+abbrev pub lessGates : ℕ → ℕ → List Gate
+lessGates p k = powers p (zGate k) ++ terms p (zGate k) (termStart p k) (orderExponents p)
+
+-- "The sum is L.": the last of p gates
+abbrev pub lessGate : ℕ → ℕ → ℕ
+lessGate p k = termStart p k + (p - 1)
+
+-- "Every digit but the lowest then FLIPs z^(p-1): E.": digit number j
+abbrev pub equalGates : ℕ → ℕ → ℕ → List Gate
+equalGates p zero k = []
+equalGates p (suc j) k = Flip (powerGate p (zGate k) (p - 1)) ∷ []
+
+abbrev pub equalGate : ℕ → ℕ → ℕ
+equalGate p k = suc (lessGate p k)

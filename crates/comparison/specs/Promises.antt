@@ -1,0 +1,64 @@
+-- What is proved of one condition, for every odd prime p and any n from 1 on, written after any gates.
+-- Proved in `proofs/Condition.antt`.
+use mathlib.Core.Path.{_≡_}
+use mathlib.Core.Bool.{true}
+use mathlib.Core.List.{List, _++_}
+use Prim.Native.Nat.{ℕ, suc, _+_, _-_, _%_, _≤_}
+use lib.ListN.{length}
+use Rattle.field.specs.Bit.{bit}
+use Rattle.field.specs.Logarithm.{clog}
+use Rattle.field.specs.Primes.{Prime}
+use Rattle.digits.specs.Number.{base, allBelow}
+use Rattle.circuit.specs.Count.{cost}
+use Rattle.circuit.specs.Depth.{depths}
+use Rattle.circuit.specs.Gate.{Gate}
+use Rattle.circuit.specs.Meaning.{entryAt}
+use Rattle.circuit.specs.Table.{Head, leftSlots, rightSlots, allFit}
+use Rattle.circuit.specs.Value.{values}
+use Rattle.comparison.specs.Condition.{conditionGates}
+use Rattle.comparison.specs.Digits.{Condition}
+use Rattle.comparison.specs.Formulas.{conditionSize, costSummand, conditionCost}
+use Rattle.comparison.specs.Holds.{holds}
+
+-- "A condition's output is the last gate that it writes."
+abbrev pub OutputIsLast : Type 0
+OutputIsLast =
+    (p k : ℕ) (c : Condition) → 3 ≤ p → p % 2 ≡ 1 → 1 ≤ c .digits
+    → suc (conditionGates p c k .output .gate) ≡ k + length (conditionGates p c k .gates)
+
+-- its gates are as many as document 01 says
+abbrev pub ConditionGates : Type 0
+ConditionGates =
+    (p k : ℕ) (c : Condition) → 3 ≤ p → p % 2 ≡ 1 → 1 ≤ c .digits → length (conditionGates p c k .gates) ≡ conditionSize p c
+
+-- they keep the rules of gates
+abbrev pub ConditionFits : Type 0
+ConditionFits =
+    (head : Head) (k : ℕ) (c : Condition) → 3 ≤ head .prime → head .prime % 2 ≡ 1 → 1 ≤ c .digits
+    → c .left + c .digits ≤ leftSlots head → c .right + c .digits ≤ rightSlots head
+    → allFit head k (conditionGates (head .prime) c k .gates) ≡ true
+
+-- what they cost
+abbrev pub ConditionCosts : Type 0
+ConditionCosts =
+    (p s k : ℕ) (c : Condition) → 3 ≤ p → p % 2 ≡ 1 → 1 ≤ c .digits → cost s (conditionGates p c k .gates) ≡ conditionCost p s c
+
+-- and that is at most the summand of demand 3
+abbrev pub CostWithin : Type 0
+CostWithin = (p s : ℕ) (c : Condition) → 3 ≤ p → p % 2 ≡ 1 → 1 ≤ c .digits → conditionCost p s c ≤ costSummand p s (c .digits)
+
+-- the output is 1 where the condition holds, and 0 otherwise
+abbrev pub ConditionHolds : Type 0
+ConditionHolds =
+    (p : ℕ) (left right : List ℕ) (gates : List Gate) (c : Condition) → Prime p → 3 ≤ p → p % 2 ≡ 1 → 1 ≤ c .digits
+    → c .left + c .digits ≤ length left → c .right + c .digits ≤ length right → allBelow (base p) left ≡ true → allBelow (base p) right ≡ true
+    → let written = conditionGates p c (length gates) in
+    entryAt (values p left right) (gates ++ written .gates) (written .output .gate) ≡ bit (holds (base p) left right c)
+
+-- the output's depth is ceil(log2(p-1)) + ceil(log2 n), and its node tells it
+abbrev pub ConditionDepth : Type 0
+ConditionDepth =
+    (p : ℕ) (gates : List Gate) (c : Condition) → 3 ≤ p → p % 2 ≡ 1 → 1 ≤ c .digits
+    → let written = conditionGates p c (length gates) in
+    (entryAt depths (gates ++ written .gates) (written .output .gate) ≡ written .output .depth)
+    × (written .output .depth ≡ clog (p - 1) + clog (c .digits))

@@ -1,0 +1,65 @@
+-- What an accepted card keeps, as facts of numbers: its prime, its weight, how many conditions and slots it has, and the slots of each condition.
+-- The conditions' slots follow one another, so each ends where the later ones begin, and the last at N.
+-- Assumes nothing.
+use mathlib.Core.Path.{_≡_}
+use mathlib.Core.Bool.{true, false}
+use mathlib.Core.List.{List, [], _∷_}
+use Prim.Native.Nat.{ℕ, _+_, _≤_}
+use native.Mathlib.Omega.{arith}
+use borrow.Author.Tests.{ltb-false}
+use lib.ListN.{length}
+use Rattle.answer.specs.Outcome.{accepted}
+use Rattle.field.specs.Primes.{OddPrime, listed}
+use Rattle.field.specs.Sum.{total}
+use Rattle.field.proofs.Primes.{listed-iff}
+use Rattle.field.proofs.Tests.{in-range}
+use Rattle.digits.specs.Number.{mostDigits}
+use Rattle.circuit.specs.Every.{Every}
+use Rattle.circuit.specs.Table.{wrongWeight}
+use Rattle.comparison.specs.Digits.{Condition}
+use Rattle.query.specs.Card.{Card, slotsOf, readCard, inSlots}
+use Rattle.query.proofs.Reading.{Keeps, in-slots, reads}
+
+-- a condition has 1 to 16 digits, and its slots are among the first N on both sides
+abbrev pub InCard : ℕ → Condition → Type 0
+InCard N c = (1 ≤ c .digits) × (c .digits ≤ 16) × (c .left + c .digits ≤ N) × (c .right + c .digits ≤ N)
+
+pub record Accepted (card : Card) : Type 0 where
+  pub prime : OddPrime (card .prime)
+  pub listed : listed (card .prime) ≡ true
+  pub weight : (50 ≤ card .weight) × (card .weight ≤ 100)
+  pub weightTest : wrongWeight (card .weight) ≡ false
+  pub count : (1 ≤ length (card .conditions)) × (length (card .conditions) ≤ 8)
+  pub slots : (1 ≤ slotsOf (card .conditions)) × (slotsOf (card .conditions) ≤ 16)
+  pub each : Every (λ (c : Condition). InCard (slotsOf (card .conditions)) c) (card .conditions)
+
+-- conditions that take the slots from slot on, up to N at most
+in-card : (N slot : ℕ) (cs : List Condition) → inSlots slot cs ≡ true → slot + slotsOf cs ≤ N → Every (λ (c : Condition). InCard N c) cs
+unfolding total
+in-card N slot [] t h = tt
+in-card N slot (c ∷ cs) t h =
+    let s = in-slots slot c cs t in
+    let n = in-range (c .digits) 1 mostDigits (s .count) in
+    (omega (arith, n, s .left, s .right), in-card N (slot + c .digits) cs (s .later) (omega arith))
+
+-- a condition has at least one slot
+some-slot : (slot : ℕ) (cs : List Condition) → inSlots slot cs ≡ true → 1 ≤ length cs → 1 ≤ slotsOf cs
+unfolding total
+some-slot slot [] t h = absurd (omega arith)
+some-slot slot (c ∷ cs) t h = let n = in-range (c .digits) 1 mostDigits (in-slots slot c cs t .count) in omega arith
+
+accepted-keeps : (card : Card) → Keeps card → Accepted card
+accepted-keeps card k =
+    let count = in-range (length (card .conditions)) 1 8 (k .count) in
+    record {
+      prime = listed-iff (card .prime) .0 (k .prime);
+      listed = k .prime;
+      weight = in-range (card .weight) 50 100 (k .weight);
+      weightTest = k .weight;
+      count = count;
+      slots = (some-slot 0 (card .conditions) (k .placed) (count .0), ltb-false mostDigits (slotsOf (card .conditions)) (k .slots));
+      each = in-card (slotsOf (card .conditions)) 0 (card .conditions) (k .placed) (omega arith);
+    }
+
+pub accepted-card : (bytes : List ℕ) (card : Card) → readCard bytes ≡ accepted card → Accepted card
+accepted-card bytes card e = accepted-keeps card (reads bytes card e .kept)

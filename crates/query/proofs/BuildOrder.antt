@@ -1,0 +1,20 @@
+-- Every broken rule of a card gives its number, in document 01's order, by computing the definitions.
+-- Assumes nothing.
+use mathlib.Core.Path.{refl}
+use Rattle.field.specs.Polynomials.{orderExponents}
+use Rattle.field.specs.Primes.{member, primes, listed}
+use Rattle.field.specs.Sum.{total}
+use Rattle.circuit.specs.ProductTree.{multiply}
+use Rattle.comparison.specs.Bits.{ones}
+use Rattle.comparison.specs.Condition.{equalityFactors, conditionGates}
+use Rattle.comparison.specs.Digits.{digitsFrom}
+use Rattle.comparison.specs.EqualityDigit.{chain}
+use Rattle.comparison.specs.Joining.{halves, joinLowest}
+use Rattle.comparison.specs.OrderDigit.{ascending, laterTerms}
+use Rattle.query.specs.Card.{readConditions}
+use Rattle.query.specs.BuildOrder.{BuildOrder}
+use Rattle.query.specs.Whole.{addAll}
+
+pub build-order : BuildOrder
+unfolding listed member primes readConditions total addAll conditionGates digitsFrom ascending orderExponents laterTerms chain ones halves joinLowest equalityFactors multiply
+build-order = refl

@@ -1,0 +1,7 @@
+-- Laws that other crates cite.
+pub mod BuildOrder
+pub mod Reading
+pub mod Accepted
+pub mod OverConditions
+pub mod Whole
+pub mod Promises

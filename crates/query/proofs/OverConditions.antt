@@ -1,0 +1,52 @@
+-- Sums over the conditions of a card, and the bound on a condition's gates that keeps every table within 8191.
+-- Assumes nothing.
+use mathlib.Core.Path.{_≡_}
+use mathlib.Core.Bool.{Bool, true, false}
+use mathlib.Core.List.{List, [], _∷_}
+use Prim.Native.Nat.{ℕ, _+_, _-_, _*_, _/_, _%_, _^_, _≤_}
+use native.Mathlib.Omega.{arith}
+use native.Mathlib.Nat.{le-refl, mul-le-mul-left}
+use lib.ListN.{length}
+use lib.Pow.{pow-pos}
+use Rattle.field.specs.Bit.{bit}
+use Rattle.field.specs.Logarithm.{flog}
+use Rattle.field.specs.Sum.{total}
+use Rattle.circuit.specs.Every.{Every}
+use Rattle.comparison.specs.Bits.{ones}
+use Rattle.comparison.specs.Digits.{Condition}
+use Rattle.comparison.specs.Formulas.{gatesBeforeFlip, conditionSize}
+use Rattle.comparison.specs.Relation.{isOrder, isFlipped}
+use Rattle.comparison.proofs.Bits.{ones-below, flog-below}
+use Rattle.query.specs.Formulas.{overConditions}
+
+pub over-mono : (f g : Condition → ℕ) (cs : List Condition) → Every (λ (c : Condition). f c ≤ g c) cs → overConditions f cs ≤ overConditions g cs
+unfolding total
+over-mono f g [] h = le-refl _
+over-mono f g (c ∷ cs) h = omega (arith, h .0, over-mono f g cs (h .1))
+
+pub over-times : (a : ℕ) (f : Condition → ℕ) (cs : List Condition) → overConditions (λ (c : Condition). a * f c) cs ≡ a * overConditions f cs
+unfolding total
+over-times a f [] = omega arith
+over-times a f (c ∷ cs) = omega (arith, over-times a f cs)
+
+pub over-some : (f : Condition → ℕ) (cs : List Condition) → 1 ≤ length cs → 1 ≤ overConditions (λ (c : Condition). 2 ^ f c) cs
+unfolding total
+over-some f [] some = absurd (omega arith)
+over-some f (c ∷ cs) some = omega (arith, pow-pos (f c))
+
+-- at most 445 gates for each digit
+pub size-within : (p : ℕ) (c : Condition) → 3 ≤ p → p % 2 ≡ 1 → p ≤ 251 → 1 ≤ c .digits → conditionSize p c ≤ 445 * c .digits
+size-within p c three odd high some = go (isOrder (c .relation)) (isFlipped (c .relation))
+  where
+    bits-wide : 3 + flog (p - 1) + ones (p - 1) ≤ 441
+    bits-wide = omega (arith, flog-below (p - 1) (omega arith), ones-below (p - 1) (omega arith) (omega arith))
+
+    go : (b f : Bool) → gatesBeforeFlip b p (c .digits) + bit f ≤ 445 * c .digits
+    go true true =
+        let wide : c .digits * (p + 4 + (p - 3) / 2 + (p - 1) / 4) ≤ c .digits * 441 = mul-le-mul-left (c .digits) (omega arith) in omega arith
+    go true false =
+        let wide : c .digits * (p + 4 + (p - 3) / 2 + (p - 1) / 4) ≤ c .digits * 441 = mul-le-mul-left (c .digits) (omega arith) in omega arith
+    go false true =
+        let wide : c .digits * (3 + flog (p - 1) + ones (p - 1)) ≤ c .digits * 441 = mul-le-mul-left (c .digits) bits-wide in omega arith
+    go false false =
+        let wide : c .digits * (3 + flog (p - 1) + ones (p - 1)) ≤ c .digits * 441 = mul-le-mul-left (c .digits) bits-wide in omega arith

@@ -1,0 +1,247 @@
+-- Demand 3: the promises of the table of every accepted card.
+-- A card's draft is sound (`Whole`), and its product tree ends the table; so the table's last gate is the tree's output, and the laws of product trees give the rest.
+-- Assumes nothing.
+use mathlib.Core.Path.{_≡_, refl, sym, ap, _∙_}
+use mathlib.Core.Bool.{Bool, true}
+use mathlib.Core.List.{List, _++_, map, map-map}
+use Prim.Native.Nat.{ℕ, suc, _-_, _*_, _%_, _^_, _≤_, _<_}
+use native.Mathlib.Omega.{arith}
+use native.Mathlib.Nat.{le-refl, zero-add, mod-eq-of-lt}
+use borrow.Author.Tests.{le-ltb, eq-eqb}
+use lib.ListN.{length, length-append, drop}
+use Rattle.answer.specs.Outcome.{accepted, Outcome}
+use Rattle.field.specs.Bit.{bit}
+use Rattle.field.specs.Logarithm.{clog}
+use Rattle.field.specs.Sum.{total}
+use Rattle.field.proofs.Logarithm.{clog-factor}
+use Rattle.field.proofs.Tests.{in-range-false}
+use Rattle.digits.specs.Number.{base, mostDigits, allBelow}
+use Rattle.digits.proofs.Number.{below-at, below-weaken}
+use Rattle.circuit.specs.Count.{count, isProduct, isSquare, cost}
+use Rattle.circuit.specs.Depth.{depths, depth}
+use Rattle.circuit.specs.Every.{Every}
+use Rattle.circuit.specs.Factors.{InOrder, breadth, product}
+use Rattle.circuit.specs.Gate.{Gate}
+use Rattle.circuit.specs.Meaning.{entries, entryAt, output}
+use Rattle.circuit.specs.ProductTree.{productTree}
+use Rattle.circuit.specs.Report.{Report, report}
+use Rattle.circuit.specs.Segment.{Node, Segment}
+use Rattle.circuit.specs.Table.{Head, tableBytes, allFit, wellFormed, mostGates}
+use Rattle.circuit.specs.Value.{values}
+use Rattle.circuit.proofs.Bounds.{values-below}
+use Rattle.circuit.proofs.Count.{count-append}
+use Rattle.circuit.proofs.Every.{every-map, every-map₂, map-same}
+use Rattle.circuit.proofs.Fitting.{fit-append}
+use Rattle.circuit.proofs.Kraft.{at-least}
+use Rattle.circuit.proofs.ProductTree.{tree-last, product-fits, product-count, product-value, product-depth}
+use Rattle.circuit.proofs.Promises.{checks-tables, trims-tables, runs-tables}
+use Rattle.circuit.proofs.WellFormed.{is-well-formed}
+use Rattle.comparison.specs.Digits.{Condition}
+use Rattle.comparison.specs.Formulas.{conditionSize, costSummand, conditionCost}
+use Rattle.comparison.proofs.Condition.{cost-within}
+use Rattle.comparison.proofs.EqualityCondition.{bit-below}
+use Rattle.query.specs.Card.{Card, slotsOf, readCard}
+use Rattle.query.specs.Formulas.{overConditions, gateCount, depthFormula, costFormula, allHold}
+use Rattle.query.specs.Outcomes.{tableRoom, building}
+use Rattle.query.specs.Promises.{gatesOf, RightAnswer, ExactDepth, outputGates, NoShallowerTree, BoundedCost, ExactCost, ExactSize, SameReport, TrimsToTable, RunsTheTable}
+use Rattle.query.specs.Whole.{Draft, begin, filled, tableOf}
+use Rattle.query.proofs.Accepted.{Accepted, accepted-card}
+use Rattle.query.proofs.OverConditions.{over-mono, over-times, over-some, size-within}
+use Rattle.query.proofs.Whole.{Good, Sound, outputs-kept, all-sound, all-length, all-outputs, all-cost, all-breadth, all-value}
+
+-- ---- the draft and the tree of an accepted card
+
+module _ (bytes : List ℕ) (card : Card) (e : readCard bytes ≡ accepted card) where
+  abbrev p : ℕ
+  p = card .prime
+
+  abbrev N : ℕ
+  N = slotsOf (card .conditions)
+
+  abbrev head : Head
+  head = tableOf card .head
+
+  known : Accepted card
+  known = accepted-card bytes card e
+
+  three : 3 ≤ p
+  three = known .prime .low
+
+  odd : p % 2 ≡ 1
+  odd = known .prime .odd
+
+  good : Every (Good head) (card .conditions)
+  good = every-map (λ (c : Condition) h. (h .0, h .2, h .3)) (card .conditions) (known .each)
+
+  begin-sound : Sound head three odd begin
+  unfolding allFit InOrder
+  begin-sound = record { fitted = refl; order = le-refl _; nodes = tt; single = λ one. absurd (omega arith) }
+
+  abbrev draft : Draft
+  draft = filled card
+
+  abbrev k : ℕ
+  k = length (draft .gates)
+
+  abbrev tree : Segment
+  tree = productTree k (draft .outputs)
+
+  abbrev gates : List Gate
+  gates = gatesOf card
+
+  sound : Sound head three odd draft
+  sound = all-sound head three odd begin (card .conditions) begin-sound good
+
+  outputs-length : length (draft .outputs) ≡ length (card .conditions)
+  outputs-length = all-outputs head three odd begin (card .conditions) ∙ zero-add _
+
+  some : 1 ≤ length (draft .outputs)
+  some = omega (arith, outputs-length, known .count .0)
+
+  -- the tree's output is the last gate
+  output-last : suc (tree .output .gate) ≡ length gates
+  output-last =
+      let count = product-count k (draft .outputs) some (sound .order) .0 in
+      omega (arith, tree-last k (draft .outputs) some (sound .single), length-append (draft .gates) (tree .gates), count)
+
+  last-gate : tree .output .gate ≡ length gates - 1
+  last-gate = omega (arith, output-last)
+
+  -- ---- depth
+
+  depth-is : depth gates ≡ clog (breadth (draft .outputs))
+  depth-is = ap (entryAt depths gates) (sym last-gate) ∙ product-depth (draft .gates) (draft .outputs) some (sound .order) (sound .nodes)
+
+  formula-depth : depth gates ≡ depthFormula card
+  unfolding total
+  formula-depth =
+      let sum = overConditions (λ (c : Condition). 2 ^ clog (c .digits)) (card .conditions) in
+      let wide : breadth (draft .outputs) ≡ 2 ^ clog (p - 1) * sum = all-breadth head three odd begin (card .conditions) good ∙ zero-add _ in
+      depth-is ∙ ap clog wide ∙ clog-factor (clog (p - 1)) sum (over-some (λ (c : Condition). clog (c .digits)) (card .conditions) (known .count .0))
+
+  -- each output's node tells the depth of its gate in the whole table
+  output-depths : Every (λ (f : Node). 2 ^ entryAt depths gates (f .gate) ≡ 2 ^ f .depth) (draft .outputs)
+  output-depths =
+      every-map₂ (λ (f : Node) kept node. ap (λ (d : ℕ). 2 ^ d) (kept ∙ node)) (draft .outputs)
+      (outputs-kept head three odd depths draft (tree .gates) sound) (sound .nodes)
+
+  gates-breadth : total (map (λ (g : ℕ). 2 ^ entryAt depths gates g) (outputGates card)) ≡ breadth (draft .outputs)
+  gates-breadth = ap total (map-map _ (λ (f : Node). f .gate) (draft .outputs) ∙ map-same _ _ (draft .outputs) output-depths)
+
+  -- ---- cost and size
+
+  formula-cost : cost (card .weight) gates ≡ costFormula card
+  unfolding count
+  formula-cost =
+      let s = card .weight in
+      let tree-count = product-count k (draft .outputs) some (sound .order) in
+      omega (
+        arith,
+        count-append isProduct (draft .gates) (tree .gates),
+        ap (λ (t : ℕ). s * t) (count-append isSquare (draft .gates) (tree .gates)),
+        tree-count .1,
+        ap (λ (t : ℕ). s * t) (tree-count .2),
+        all-cost head three odd s begin (card .conditions) good,
+        outputs-length,
+      )
+
+  formula-size : length gates ≡ gateCount card
+  formula-size =
+      let count = product-count k (draft .outputs) some (sound .order) .0 in
+      omega (arith, length-append (draft .gates) (tree .gates), count, all-length head three odd begin (card .conditions) good, outputs-length)
+
+  -- c - 1 gates, and 445 for each of at most 16 digits
+  size-fits : length gates ≤ mostGates
+  size-fits =
+      let sizes = over-mono (conditionSize p) (λ (c : Condition). 445 * c .digits) (card .conditions)
+      (every-map (λ (c : Condition) h. size-within p c three odd (known .prime .high) (h .0)) (card .conditions) (known .each)) in
+      omega (arith, formula-size, sizes, over-times 445 (λ (c : Condition). c .digits) (card .conditions), known .slots .1, known .count .1)
+
+  formed : wellFormed (tableOf card) ≡ true
+  formed =
+      is-well-formed (tableOf card) (record {
+        prime = known .listed;
+        weight = known .weightTest;
+        slots = in-range-false N 1 mostDigits (known .slots .0) (known .slots .1);
+        count = in-range-false (length gates) 1 mostGates (omega (arith, output-last)) size-fits;
+        fitted = fit-append head 0 (draft .gates) (tree .gates) (sound .fitted)
+            (rw (zero-add k) (product-fits head k (draft .outputs) some (sound .order)));
+      })
+
+  -- ---- value
+
+  module _ (left right : List ℕ) (l : length left ≡ N) (r : length right ≡ N)
+      (hl : allBelow (base p) left ≡ true) (hr : allBelow (base p) right ≡ true) where
+    abbrev answer : Bool
+    answer = allHold (base p) left right (card .conditions)
+
+    -- the outputs' product is the answer's bit
+    product-is : product (map (λ (f : Node). entryAt (values p left right) (draft .gates) (f .gate)) (draft .outputs)) ≡ bit answer
+    unfolding product
+    product-is =
+        all-value head three odd (known .prime .prime) left right (omega arith) (omega arith) hl hr begin (card .conditions) begin-sound good
+        ∙ omega arith
+
+    below : output (values p left right) gates < p
+    below =
+        let low : base p ≤ p = omega (arith, three) in
+        below-at p (entries (values p left right) gates) (length gates - 1) (omega (arith, three))
+        (values-below p left right gates (omega (arith, three)) (below-weaken (base p) p left low hl) (below-weaken (base p) p right low hr))
+
+    right-value : output (values p left right) gates ≡ bit answer
+    right-value =
+        let alg = values p left right in
+        sym (mod-eq-of-lt below)
+        ∙ ap (λ (g : ℕ). entryAt alg gates g % p) (sym last-gate)
+        ∙ product-value p left right (draft .gates) (draft .outputs) (omega (arith, three)) some (sound .order)
+        ∙ ap (λ (v : ℕ). v % p) product-is
+        ∙ mod-eq-of-lt (bit-below p (omega (arith, three)) answer)
+
+  -- ---- what Build leaves
+
+  built : (lent : List ℕ) → tableRoom (tableOf card) ≤ length lent
+      → building bytes lent ≡ record { answer = accepted (report (tableOf card)); lent = tableBytes (tableOf card) ++ drop (tableRoom (tableOf card)) lent }
+  built lent room = rw (e, le-ltb (length lent) (tableRoom (tableOf card)) room)
+
+-- ---- the promises
+
+pub right-answer : RightAnswer
+right-answer bytes left right card e l r hl hr = right-value bytes card e left right l r hl hr
+
+pub exact-depth : ExactDepth
+exact-depth bytes card e = formula-depth bytes card e
+
+pub no-shallower-tree : NoShallowerTree
+no-shallower-tree bytes card tree e same =
+    rw (depth-is bytes card e, ← gates-breadth bytes card e) (at-least (entryAt depths (gatesOf card)) (outputGates card) tree same)
+
+pub exact-cost : ExactCost
+exact-cost bytes card e = formula-cost bytes card e
+
+pub bounded-cost : BoundedCost
+bounded-cost bytes card e =
+    let each = every-map (λ (c : Condition) h. cost-within (card .prime) (card .weight) c (three bytes card e) (odd bytes card e) (h .0))
+    (card .conditions) (good bytes card e) in
+    omega (arith, exact-cost bytes card e, over-mono (conditionCost (card .prime) (card .weight)) (λ (c : Condition). costSummand (card .prime) (card .weight) (c .digits)) (card .conditions) each)
+
+pub exact-size : ExactSize
+exact-size bytes card e = (formula-size bytes card e, size-fits bytes card e, formed bytes card e)
+
+pub same-report : SameReport
+same-report bytes lent later card e room =
+    let table = tableOf card in
+    let b = built bytes card e lent room in (
+      ap (λ (o : Outcome Report). o .answer) b,
+      rw e,
+      checks-tables table later (formed bytes card e),
+      rw b (checks-tables table (drop (tableRoom table) lent) (formed bytes card e)),
+    )
+
+pub trims-to-table : TrimsToTable
+trims-to-table bytes lent card e room =
+    let table = tableOf card in rw (built bytes card e lent room) (trims-tables table (drop (tableRoom table) lent) (formed bytes card e))
+
+pub runs-the-table : RunsTheTable
+runs-the-table bytes lent left right work card e room l r hl hr enough =
+    let table = tableOf card in
+    rw (built bytes card e lent room, runs-tables table (drop (tableRoom table) lent) left right work (formed bytes card e), eq-eqb _ _ l, eq-eqb _ _ r, hl, hr, le-ltb _ _ enough)

@@ -1,0 +1,41 @@
+-- The order of Build's refusals (document 01, "Operations and what they turn away"), on bytes that break every rule and are mended one rule at a time.
+-- Proved in `proofs/BuildOrder.antt`.
+use mathlib.Core.Path.{_≡_}
+use mathlib.Core.List.{List, [], _∷_, _++_, map}
+use Prim.Native.Nat.{ℕ}
+use Rattle.answer.specs.Outcome.{Answer, onAnswer}
+use Rattle.query.specs.Outcomes.{building}
+
+-- the refusal's number, or 0
+abbrev number : {A : Type 0} → Answer A → ℕ
+number answer = onAnswer answer (λ k. k) (λ a. 0)
+
+-- a good head of a card of two conditions, p=3 and s=75
+abbrev twoConditions : List ℕ → List ℕ
+twoConditions records = (0xC5 ∷ 0x48 ∷ 3 ∷ 75 ∷ 2 ∷ 0 ∷ []) ++ records
+
+abbrev pub brokenCards : List (List ℕ)
+brokenCards =
+    []
+    ∷ (0 ∷ 0 ∷ 9 ∷ 49 ∷ 9 ∷ 1 ∷ [])
+    ∷ (0xC5 ∷ 0x48 ∷ 9 ∷ 49 ∷ 9 ∷ 1 ∷ [])
+    ∷ (0xC5 ∷ 0x48 ∷ 3 ∷ 49 ∷ 9 ∷ 1 ∷ [])
+    ∷ (0xC5 ∷ 0x48 ∷ 3 ∷ 75 ∷ 9 ∷ 1 ∷ [])
+    ∷ (0xC5 ∷ 0x48 ∷ 3 ∷ 75 ∷ 9 ∷ 0 ∷ [])
+    ∷ (0xC5 ∷ 0x48 ∷ 3 ∷ 75 ∷ 2 ∷ 0 ∷ [])
+    ∷ twoConditions (0 ∷ 0 ∷ 7 ∷ 17 ∷ 0 ∷ 0 ∷ 7 ∷ 17 ∷ [])
+    ∷ twoConditions (0xC5 ∷ 0x51 ∷ 7 ∷ 17 ∷ 0 ∷ 0 ∷ 7 ∷ 17 ∷ [])
+    ∷ twoConditions (0xC5 ∷ 0x51 ∷ 1 ∷ 17 ∷ 0 ∷ 0 ∷ 7 ∷ 17 ∷ [])
+    ∷ twoConditions (0xC5 ∷ 0x51 ∷ 1 ∷ 16 ∷ 0 ∷ 0 ∷ 7 ∷ 17 ∷ [])
+    ∷ twoConditions (0xC5 ∷ 0x51 ∷ 1 ∷ 16 ∷ 0xC5 ∷ 0x51 ∷ 7 ∷ 17 ∷ [])
+    ∷ twoConditions (0xC5 ∷ 0x51 ∷ 1 ∷ 16 ∷ 0xC5 ∷ 0x51 ∷ 5 ∷ 17 ∷ [])
+    ∷ twoConditions (0xC5 ∷ 0x51 ∷ 1 ∷ 16 ∷ 0xC5 ∷ 0x51 ∷ 5 ∷ 1 ∷ [])
+    ∷ twoConditions (0xC5 ∷ 0x51 ∷ 1 ∷ 1 ∷ 0xC5 ∷ 0x51 ∷ 5 ∷ 1 ∷ [])
+    ∷ []
+
+-- "1 card under 6 bytes; 2 head mark; 3 p not listed; 4 s; 5 spare not 0; 6 c; 7 length not 6+4c; then by condition 2 mark, 8 relation, 9 n;
+-- then 10 N over 16; last 11": each condition's rules before the next condition's; no table is lent
+abbrev pub BuildOrder : Type 0
+BuildOrder =
+    map (λ bytes. number (building bytes [] .answer)) brokenCards
+    ≡ 1 ∷ 2 ∷ 3 ∷ 4 ∷ 5 ∷ 6 ∷ 7 ∷ 2 ∷ 8 ∷ 9 ∷ 2 ∷ 8 ∷ 9 ∷ 10 ∷ 11 ∷ []

@@ -1,0 +1,43 @@
+-- The formulas of a card: gates (document 01, "Whole card"), depth and cost (demand 3).
+use Prim.Native.Nat.{ℕ, _+_, _-_, _*_, _^_}
+use mathlib.Core.Bool.{Bool, true, _&&_}
+use mathlib.Core.List.{List, [], _∷_, map}
+use lib.ListN.{length}
+use Rattle.field.specs.Logarithm.{clog}
+use Rattle.field.specs.Sum.{total}
+use Rattle.comparison.specs.Digits.{Condition}
+use Rattle.comparison.specs.Formulas.{conditionSize, costSummand, conditionCost}
+use Rattle.comparison.specs.Holds.{holds}
+use Rattle.query.specs.Card.{Card}
+
+-- the sum over the conditions
+abbrev pub overConditions : (Condition → ℕ) → List Condition → ℕ
+overConditions f conditions = total (map f conditions)
+
+-- "plus c-1"
+abbrev pub conditionsLessOne : Card → ℕ
+conditionsLessOne card = length (card .conditions) - 1
+
+-- "Gates: .. plus c-1"
+abbrev pub gateCount : Card → ℕ
+gateCount card = overConditions (conditionSize (card .prime)) (card .conditions) + conditionsLessOne card
+
+-- "ceil(log2(p-1)) + ceil(log2(the sum over the conditions of 2^ceil(log2 n)))"
+abbrev pub depthFormula : Card → ℕ
+depthFormula card = clog (card .prime - 1) + clog (overConditions (λ (c : Condition). 2 ^ clog (c .digits)) (card .conditions))
+
+-- "100(c-1) plus, for each condition, n(50(p-3) + s(floor((p-1)/4)+1)) + 100(2n-2-floor(log2 n))"
+abbrev pub costBound : Card → ℕ
+costBound card =
+    100 * conditionsLessOne card
+    + overConditions (λ (c : Condition). costSummand (card .prime) (card .weight) (c .digits)) (card .conditions)
+
+-- the cost itself
+abbrev pub costFormula : Card → ℕ
+costFormula card =
+    100 * conditionsLessOne card + overConditions (conditionCost (card .prime) (card .weight)) (card .conditions)
+
+-- "all conditions hold of the two sides' numbers"
+abbrev pub allHold : ℕ → List ℕ → List ℕ → List Condition → Bool
+allHold B left right [] = true
+allHold B left right (c ∷ cs) = holds B left right c && allHold B left right cs

@@ -1,0 +1,93 @@
+-- Demand 3: what is proved of the table of every accepted card, whatever its p, s, c, and the relation and digit count of each condition.
+-- Document 01, "Whole card": "a card is accepted where none of Build's numbers but perhaps 11 turns it away", so where `readCard` accepts its bytes.
+-- Proved in `proofs/Promises.antt`.
+use mathlib.Core.Path.{_≡_}
+use mathlib.Core.Bool.{true}
+use mathlib.Core.List.{List, _++_, map, List·Permᴰ}
+use Prim.Native.Nat.{ℕ, _≤_}
+use lib.ListN.{length}
+use Rattle.answer.specs.Outcome.{accepted}
+use Rattle.field.specs.Bit.{bit}
+use Rattle.digits.specs.Number.{base, allBelow}
+use Rattle.circuit.specs.Count.{cost}
+use Rattle.circuit.specs.Depth.{depths, depth}
+use Rattle.circuit.specs.Gate.{Gate}
+use Rattle.circuit.specs.Meaning.{entryAt, output}
+use Rattle.circuit.specs.Outcomes.{checking, trimming, running}
+use Rattle.circuit.specs.Report.{report}
+use Rattle.circuit.specs.Segment.{Node}
+use Rattle.circuit.specs.Table.{tableBytes, wellFormed, mostGates}
+use Rattle.circuit.specs.Tree.{Tree, leaves, height}
+use Rattle.circuit.specs.Value.{values}
+use Rattle.query.specs.Card.{Card, slotsOf, readCard}
+use Rattle.query.specs.Formulas.{gateCount, depthFormula, costBound, costFormula, allHold}
+use Rattle.query.specs.Outcomes.{tableRoom, building, forecasting}
+use Rattle.query.specs.Whole.{filled, tableOf}
+
+abbrev pub gatesOf : Card → List Gate
+gatesOf card = tableOf card .gates
+
+-- a. "For every record and query with digits below (p+1)/2, the last gate of the card's table is 1 exactly when all conditions hold
+-- of the two sides' numbers, and 0 otherwise." "A record is a left list and a query a right list, of the length that 18 asks."
+abbrev pub RightAnswer : Type 0
+RightAnswer =
+    (bytes left right : List ℕ) (card : Card) → readCard bytes ≡ accepted card
+    → length left ≡ slotsOf (card .conditions) → length right ≡ slotsOf (card .conditions)
+    → allBelow (base (card .prime)) left ≡ true → allBelow (base (card .prime)) right ≡ true
+    → output (values (card .prime) left right) (gatesOf card) ≡ bit (allHold (base (card .prime)) left right (card .conditions))
+
+-- b. "It is exactly ceil(log2(p-1)) + ceil(log2(the sum over the conditions of 2^ceil(log2 n)))."
+abbrev pub ExactDepth : Type 0
+ExactDepth = (bytes : List ℕ) (card : Card) → readCard bytes ≡ accepted card → depth (gatesOf card) ≡ depthFormula card
+
+-- the condition outputs; that each is the last gate that its condition writes is `OutputIsLast` of comparison
+abbrev pub outputGates : Card → List ℕ
+outputGates card = map (λ (f : Node). f .gate) (filled card .outputs)
+
+-- c. "Every other tree of two-way products over the same condition outputs, each used once, is at least as deep as the table.":
+-- any tree whose leaves are all outputs, each once, in any order; a single output is as deep as its gate
+abbrev pub NoShallowerTree : Type 0
+NoShallowerTree =
+    (bytes : List ℕ) (card : Card) (tree : Tree ℕ) → readCard bytes ≡ accepted card → List·Permᴰ (leaves tree) (outputGates card)
+    → depth (gatesOf card) ≤ height (entryAt depths (gatesOf card)) tree
+
+-- d. "The reported cost is 100 for each product of two different gates plus s for each square in the table.": that is `cost`.
+-- "It is at most 100(c-1) plus, for each condition, .."
+abbrev pub BoundedCost : Type 0
+BoundedCost =
+    (bytes : List ℕ) (card : Card) → readCard bytes ≡ accepted card → cost (card .weight) (gatesOf card) ≤ costBound card
+
+-- and exactly a sum in which an order condition's part is demand 3's summand
+abbrev pub ExactCost : Type 0
+ExactCost =
+    (bytes : List ℕ) (card : Card) → readCard bytes ≡ accepted card → cost (card .weight) (gatesOf card) ≡ costFormula card
+
+-- e. the gates are as many as document 01's formula says, at most 8191, and the table keeps every rule
+abbrev pub ExactSize : Type 0
+ExactSize =
+    (bytes : List ℕ) (card : Card) → readCard bytes ≡ accepted card
+    → (length (gatesOf card) ≡ gateCount card) × (length (gatesOf card) ≤ mostGates) × (wellFormed (tableOf card) ≡ true)
+
+-- f. "Reported is what Build answers, as do Forecast for the same card and Check for that table.": the same five numbers,
+-- whatever stands after the table's bytes, so also in the bytes that Build leaves
+abbrev pub SameReport : Type 0
+SameReport =
+    (bytes lent later : List ℕ) (card : Card) → readCard bytes ≡ accepted card → tableRoom (tableOf card) ≤ length lent
+    → (building bytes lent .answer ≡ accepted (report (tableOf card)))
+    × (forecasting bytes ≡ accepted (report (tableOf card)))
+    × (checking (tableBytes (tableOf card) ++ later) ≡ accepted (report (tableOf card)))
+    × (checking (building bytes lent .lent) ≡ accepted (report (tableOf card)))
+
+-- Trim hands back exactly the table
+abbrev pub TrimsToTable : Type 0
+TrimsToTable =
+    (bytes lent : List ℕ) (card : Card) → readCard bytes ≡ accepted card → tableRoom (tableOf card) ≤ length lent
+    → trimming (building bytes lent .lent) ≡ tableBytes (tableOf card)
+
+-- "Run on that table, unaltered since, answers it unless 20 refuses.": the last gate's value, for all values below p
+abbrev pub RunsTheTable : Type 0
+RunsTheTable =
+    (bytes lent left right work : List ℕ) (card : Card) → readCard bytes ≡ accepted card → tableRoom (tableOf card) ≤ length lent
+    → length left ≡ slotsOf (card .conditions) → length right ≡ slotsOf (card .conditions)
+    → allBelow (card .prime) left ≡ true → allBelow (card .prime) right ≡ true → length (gatesOf card) ≤ length work
+    → running (building bytes lent .lent) left right work .answer ≡ accepted (output (values (card .prime) left right) (gatesOf card))

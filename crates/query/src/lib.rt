@@ -1,0 +1,1 @@
+// Query cards and their tables. Definitions and theorems stand in specs/ and proofs/.
