@@ -1,4 +1,5 @@
--- Chains of refusals: what is accepted has passed every rule, one rule at a time; an outcome that is known gives its answer and its lent bytes;
+-- Chains of refusals: what is accepted has passed every rule, one rule at a time;
+-- an outcome that is known gives its answer and its lent bytes;
 -- and an entry taken by its place is the one that stands there.
 -- Assumes nothing.
 use mathlib.Core.Path.{_≡_, refl, sym, ap, subst, _∙_}

@@ -14,15 +14,15 @@ use Rattle.circuit.specs.ProductTree.{least, multiply}
 use Rattle.circuit.specs.Reading.{readGates}
 use Rattle.circuit.specs.Table.{gatesBytes}
 use Rattle.comparison.specs.Bits.{ones}
-use Rattle.comparison.specs.Condition.{equalityFactors, conditionGates}
 use Rattle.comparison.specs.Digits.{digitsFrom}
 use Rattle.comparison.specs.EqualityDigit.{chain}
 use Rattle.comparison.specs.Joining.{halves, joinLowest}
 use Rattle.comparison.specs.OrderDigit.{ascending, powerGate, laterTerms}
+use Rattle.comparison.specs.Writing.{equalityFactors, conditionSegment}
 use Rattle.query.specs.Card.{readConditions}
 use Rattle.query.specs.Whole.{addAll}
 use Rattle.cases.specs.Starred.{Case, starred}
 
 pub starred-cases : map (λ (c : Case). c .given) starred ≡ map (λ (c : Case). c .said) starred
-unfolding starred orderConstants listed member primes number sum allBelow digitsOf readConditions total addAll conditionGates digitsFrom ascending powerGate laterTerms chain ones halves joinLowest equalityFactors multiply least flog clog count interpret gatesBytes readGates residue
+unfolding starred orderConstants listed member primes number sum allBelow digitsOf readConditions total addAll conditionSegment digitsFrom ascending powerGate laterTerms chain ones halves joinLowest equalityFactors multiply least flog clog count interpret gatesBytes readGates residue
 starred-cases = refl

@@ -42,7 +42,8 @@ order-lower i j k [] l h = le-trans l h
 order-lower i j k (f ∷ fs) l h = (le-trans l (h .0), h .1)
 
 -- a later gate goes to the end
-pub order-append : (i k m : ℕ) (factors : List Node) (f : Node) → InOrder i k factors → k ≤ f .gate → f .gate < m → InOrder i m (factors ++ (f ∷ []))
+pub order-append : (i k m : ℕ) (factors : List Node) (f : Node) → InOrder i k factors → k ≤ f .gate → f .gate < m
+    → InOrder i m (factors ++ (f ∷ []))
 unfolding InOrder
 order-append i k m [] f h low high = (omega arith, high)
 order-append i k m (g ∷ gs) f h low high = (h .0, order-append (suc (g .gate)) k m gs f (h .1) low high)
@@ -170,10 +171,12 @@ pair-is n factors e =
       named = λ k h. let bounds = same-every _ parts (order-every 0 k factors h) in (bounds .0 .1, bounds .1 .0 .1);
       apart = λ k h. same-every _ (b .same) (a .first 0 k h) .0 .1;
       order = λ k h.
-          order-append 0 k (suc k) (restOf factors) (times k (firstOf factors) (secondOf factors)) (b .order 0 k (a .order 0 k h)) (le-refl _) (le-refl _);
+          let product = times k (firstOf factors) (secondOf factors) in
+          order-append 0 k (suc k) (restOf factors) product (b .order 0 k (a .order 0 k h)) (le-refl _) (le-refl _);
     }
 
-pub next-same : (k : ℕ) (factors : List Node) → List·Permᴰ (next k factors) (times k (firstOf factors) (secondOf factors) ∷ restOf factors)
+pub next-same : (k : ℕ) (factors : List Node)
+    → List·Permᴰ (next k factors) (times k (firstOf factors) (secondOf factors) ∷ restOf factors)
 next-same k factors = last-first (restOf factors) (times k (firstOf factors) (secondOf factors))
 
 -- one factor fewer

@@ -1,4 +1,5 @@
--- The rules of gates as facts, which `fits` and `allFit` test, as inequalities, for `omega` to use: that a gate names only lower gates, and that it fits whole.
+-- The rules of gates as facts, which `fits` and `allFit` test, as inequalities, for `omega` to use:
+-- that a gate names only lower gates, and that it fits whole.
 -- Assumes nothing.
 use mathlib.Core.Path.{_≡_, refl}
 use mathlib.Core.Bool.{true, _&&_}

@@ -102,7 +102,9 @@ says head k bytes g e =
     let operand = passed answer (not (fits head k (kind .0) && eqb (u16At bytes 6) (fields (kind .0) .b))) (refused 17) _ refl (kind .2) in
     let same : kind .0 ≡ g = accepted-same (operand .1) in
     let fitted = both (fits head k (kind .0)) (eqb (u16At bytes 6) (fields (kind .0) .b)) (not-false _ (operand .0)) in
-    let told = numbered-is (IsKind (u16At bytes 4)) 0 16 (byte bytes 2) (kinds (u16At bytes 4) (u16At bytes 6)) (kind .0) (in-order (u16At bytes 4) (u16At bytes 6)) (kind .1) in
+    let a = u16At bytes 4 in
+    let b = u16At bytes 6 in
+    let told = numbered-is (IsKind a) 0 16 (byte bytes 2) (kinds a b) (kind .0) (in-order a b) (kind .1) in
     record {
       mark = mark-is gateMark bytes (mark .0);
       spare = eqb-true _ _ (not-false _ (spare .0));

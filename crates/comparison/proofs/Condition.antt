@@ -10,6 +10,7 @@ use lib.ListN.{length, length-append}
 use Rattle.field.specs.Bit.{bit}
 use Rattle.field.specs.Logarithm.{clog, flog}
 use Rattle.field.specs.Primes.{Prime}
+use Rattle.field.proofs.Bit.{flip-bit}
 use Rattle.field.proofs.Logarithm.{flog-less}
 use Rattle.digits.specs.Number.{base, allBelow}
 use Rattle.circuit.specs.Count.{count, isProduct, isSquare, cost}
@@ -23,18 +24,18 @@ use Rattle.circuit.proofs.Count.{count-append}
 use Rattle.circuit.proofs.Fitting.{all-fit, fit-append, all-named}
 use Rattle.circuit.proofs.Meaning.{Solves, solves-append, later-solved}
 use Rattle.comparison.specs.Bits.{ones}
-use Rattle.comparison.specs.Condition.{joining, ending, conditionGates}
-use Rattle.comparison.specs.Digits.{Condition, digitsFrom}
+use Rattle.comparison.specs.Condition.{Condition, numberIn}
+use Rattle.comparison.specs.Digits.{digitsFrom}
 use Rattle.comparison.specs.Formulas.{gatesBeforeFlip, conditionSize, costOf, costSummand}
-use Rattle.comparison.specs.Holds.{numberIn}
 use Rattle.comparison.specs.OrderDigit.{half}
-use Rattle.comparison.specs.Promises.{OutputIsLast, ConditionGates, ConditionFits, ConditionCosts, CostWithin, ConditionHolds, ConditionDepth}
+use Rattle.comparison.specs.Promises.{OutputIsLast, ConditionSized, ConditionFits, ConditionCosts, CostWithin, ConditionHolds, ConditionDepth}
 use Rattle.comparison.specs.Relation.{isOrder, isBackward, isFlipped}
+use Rattle.comparison.specs.Writing.{joining, ending, conditionSegment}
 use Rattle.comparison.proofs.Bits.{ones-below, flog-below}
 use Rattle.comparison.proofs.DigitTests.{minuend, subtrahend}
 use Rattle.comparison.proofs.EqualityCondition.{equality-length, equality-count, equality-last, equality-fits, equality-value, equality-node, equality-depth}
 use Rattle.comparison.proofs.OrderCondition.{order-length, order-count, order-last, order-fits, order-value, order-depth}
-use Rattle.comparison.proofs.Relations.{tested, flippedIf, relation-is, flip-bit, sides, in-base}
+use Rattle.comparison.proofs.Relations.{tested, flippedIf, relation-is, sides, in-base}
 
 -- what FLIP makes of an entry where there is one
 abbrev flipIf : {A : Type 0} → Algebra A → Bool → A → A
@@ -56,7 +57,8 @@ module _ (k : ℕ) (s : Segment) (last : suc (s .output .gate) ≡ k + length (s
   end-fits head true t = fit-append head k (s .gates) _ t (all-fit head _ _ (omega (arith, last), tt))
   end-fits head false t = t
 
-  end-count : (b : Bool) → (count isProduct (ending b k s .gates) ≡ count isProduct (s .gates)) × (count isSquare (ending b k s .gates) ≡ count isSquare (s .gates))
+  end-count : (b : Bool) → (count isProduct (ending b k s .gates) ≡ count isProduct (s .gates))
+      × (count isSquare (ending b k s .gates) ≡ count isSquare (s .gates))
   unfolding count
   end-count true =
       let flip = Flip (s .output .gate) ∷ [] in
@@ -138,12 +140,14 @@ module _ (p : ℕ) (three : 3 ≤ p) (odd : p % 2 ≡ 1) (c : Condition) (some :
   body-depth : (E : ℕ → ℕ) → Solves depths E k (body .gates) → E (body .output .gate) ≡ clog (p - 1) + clog (c .digits)
   body-depth E h = go order refl h
     where
-      go : (b : Bool) → isOrder (c .relation) ≡ b → Solves depths E k (bodyOf b .gates) → E (bodyOf b .output .gate) ≡ clog (p - 1) + clog (c .digits)
+      go : (b : Bool) → isOrder (c .relation) ≡ b → Solves depths E k (bodyOf b .gates)
+          → E (bodyOf b .output .gate) ≡ clog (p - 1) + clog (c .digits)
       go true e h = order-depth p three odd c e some k E h
       go false e h = equality-depth p three odd c e some k E h
 
   body-value : Prime p → (left right : List ℕ) (E : ℕ → ℕ) → Solves (values p left right) E k (body .gates)
-      → c .left + c .digits ≤ length left → c .right + c .digits ≤ length right → allBelow (base p) left ≡ true → allBelow (base p) right ≡ true
+      → c .left + c .digits ≤ length left → c .right + c .digits ≤ length right → allBelow (base p) left ≡ true
+      → allBelow (base p) right ≡ true
       → let b = isBackward (c .relation) in
       let x = numberIn (base p) (c .left) (c .digits) left in
       let y = numberIn (base p) (c .right) (c .digits) right in
@@ -167,23 +171,24 @@ module _ (p : ℕ) (three : 3 ≤ p) (odd : p % 2 ≡ 1) (c : Condition) (some :
 -- ---- the promises
 
 pub output-is-last : OutputIsLast
-unfolding conditionGates
+unfolding conditionSegment
 output-is-last p k c three odd some = end-last k (body p three odd c some k) (body-last p three odd c some k) (isFlipped (c .relation))
 
-pub condition-gates : ConditionGates
-unfolding conditionGates
-condition-gates p k c three odd some =
+pub condition-sized : ConditionSized
+unfolding conditionSegment
+condition-sized p k c three odd some =
     end-length k (body p three odd c some k) (body-last p three odd c some k) (isFlipped (c .relation))
     ∙ ap (λ (n : ℕ). n + bit (isFlipped (c .relation))) (body-length p three odd c some k)
 
 pub condition-fits : ConditionFits
-unfolding conditionGates
+unfolding conditionSegment
 condition-fits head k c three odd some l r =
     let p = head .prime in
-    end-fits k (body p three odd c some k) (body-last p three odd c some k) head (isFlipped (c .relation)) (body-fits p three odd c some k head refl l r)
+    end-fits k (body p three odd c some k) (body-last p three odd c some k) head (isFlipped (c .relation))
+    (body-fits p three odd c some k head refl l r)
 
 pub condition-costs : ConditionCosts
-unfolding conditionGates
+unfolding conditionSegment
 condition-costs p s k c three odd some =
     let counts = end-count k (body p three odd c some k) (body-last p three odd c some k) (isFlipped (c .relation)) in
     ap₂ (λ (a b : ℕ). 100 * a + s * b) (counts .0) (counts .1) ∙ body-cost p three odd c some k s
@@ -197,18 +202,19 @@ cost-within p s c three odd some = go (isOrder (c .relation))
     go false =
         let n = c .digits in
         let t = p - 1 in
-        let products : n * (100 * (ones t - 1)) ≤ n * (50 * (p - 3)) = mul-le-mul-left n (omega (arith, ones-below t (omega arith) (omega arith))) in
+        let few = ones-below t (omega arith) (omega arith) in
+        let products : n * (100 * (ones t - 1)) ≤ n * (50 * (p - 3)) = mul-le-mul-left n (omega (arith, few)) in
         let squares : n * (s * flog t) ≤ n * (s * (t / 4 + 1)) = mul-le-mul-left n (mul-le-mul-left s (flog-below t (omega arith))) in
         omega (arith, products, squares, flog-less n some)
 
 pub condition-holds : ConditionHolds
-unfolding conditionGates
+unfolding conditionSegment
 condition-holds p left right gates c prime three odd some l r hl hr =
     let k = length gates in
     let alg = values p left right in
     let b = isFlipped (c .relation) in
     let s = body p three odd c some k in
-    let written = conditionGates p c k .gates in
+    let written = conditionSegment p c k .gates in
     let head : Head = record { prime = p; weight = 0; slots = length left + length right } in
     let E = entryAt alg (gates ++ written) in
     let named = all-named head k written (condition-fits head k c three odd some (omega arith) (omega arith)) in
@@ -220,12 +226,12 @@ condition-holds p left right gates c prime three odd some l r hl hr =
     go false t e = e
 
 pub condition-depth : ConditionDepth
-unfolding conditionGates
+unfolding conditionSegment
 condition-depth p gates c three odd some =
     let k = length gates in
     let b = isFlipped (c .relation) in
     let s = body p three odd c some k in
-    let written = conditionGates p c k .gates in
+    let written = conditionSegment p c k .gates in
     let head : Head = record { prime = p; weight = 0; slots = c .left + c .right + c .digits } in
     let E = entryAt depths (gates ++ written) in
     let named = all-named head k written (condition-fits head k c three odd some (omega arith) (omega arith)) in

@@ -1,5 +1,6 @@
 -- A digit's tests come out as the tests of the two digits in its slots, and are clog of p - 1 deep.
--- Over any entries that solve the digit's gates: z is the difference, and the polynomials of a difference are the tests (`less-test`, `equal-test`).
+-- Over any entries that solve the digit's gates: z is the difference,
+-- and the polynomials of a difference are the tests (`less-test`, `equal-test`).
 -- Assumes nothing.
 use mathlib.Core.Path.{_≡_, refl, ap, ap₂, _∙_}
 use mathlib.Core.Bool.{Bool, true, false}
@@ -19,8 +20,9 @@ use Rattle.circuit.specs.Depth.{depths}
 use Rattle.circuit.specs.Meaning.{Algebra, meaning}
 use Rattle.circuit.specs.Value.{values}
 use Rattle.circuit.proofs.Meaning.{Solves, solves-append}
+use Rattle.comparison.specs.Condition.{Condition}
 use Rattle.comparison.specs.Difference.{minus, zGate}
-use Rattle.comparison.specs.Digits.{Condition, tests, digitGates}
+use Rattle.comparison.specs.Digits.{tests, digitGates}
 use Rattle.comparison.specs.EqualityDigit.{zeroGates}
 use Rattle.comparison.specs.OrderDigit.{lessGates, lessGate, equalGates, equalGate}
 use Rattle.comparison.specs.Relation.{isOrder, isBackward}
@@ -37,7 +39,8 @@ subtrahend false x y = y
 subtrahend true x y = x
 
 -- the tests of an order digit
-order-parts : (p : ℕ) → 3 ≤ p → p % 2 ≡ 1 → {A : Type 0} (alg : Algebra A) (E : ℕ → A) (j k : ℕ) → Solves alg E (suc (zGate k)) (tests true p j k)
+order-parts : (p : ℕ) → 3 ≤ p → p % 2 ≡ 1 → {A : Type 0} (alg : Algebra A) (E : ℕ → A) (j k : ℕ)
+    → Solves alg E (suc (zGate k)) (tests true p j k)
     → Solves alg E (suc (zGate k)) (lessGates p k) × Solves alg E (equalGate p k) (equalGates p j k)
 order-parts p three odd alg E j k h =
     let after : suc (zGate k) + length (lessGates p k) ≡ equalGate p k = omega (arith, less-length p three odd k) in
@@ -57,7 +60,8 @@ abbrev pub InBase : ℕ → List ℕ → List ℕ → Condition → ℕ → Type
 InBase p left right c j = (firstDigit left right c j < base p) × (secondDigit left right c j < base p)
 
 module _ (p : ℕ) (prime : Prime p) (three : 3 ≤ p) (odd : p % 2 ≡ 1) (left right : List ℕ) (E : ℕ → ℕ) (c : Condition) (k : ℕ) where
-  minus-value : (b : Bool) → meaning (values p left right) E (minus b k) ≡ subMod p (minuend b (E k) (E (suc k))) (subtrahend b (E k) (E (suc k)))
+  minus-value : (b : Bool)
+      → meaning (values p left right) E (minus b k) ≡ subMod p (minuend b (E k) (E (suc k))) (subtrahend b (E k) (E (suc k)))
   minus-value false = refl
   minus-value true = refl
 
@@ -67,7 +71,8 @@ module _ (p : ℕ) (prime : Prime p) (three : 3 ≤ p) (odd : p % 2 ≡ 1) (left
       let b = isBackward (c .relation) in
       h .1 .1 .0 ∙ minus-value b ∙ ap₂ (λ (u v : ℕ). subMod p (minuend b u v) (subtrahend b u v)) (h .0) (h .1 .0)
 
-  pub digit-less : (j : ℕ) → Solves (values p left right) E k (digitGates p c j k) → isOrder (c .relation) ≡ true → InBase p left right c j
+  pub digit-less : (j : ℕ) → Solves (values p left right) E k (digitGates p c j k) → isOrder (c .relation) ≡ true
+      → InBase p left right c j
       → E (lessGate p k) ≡ bit (ltb (firstDigit left right c j) (secondDigit left right c j))
   digit-less j h e low =
       let t : Solves (values p left right) E (suc (zGate k)) (tests true p j k) = rw e at (h .1 .1 .1) in
@@ -78,14 +83,16 @@ module _ (p : ℕ) (prime : Prime p) (three : 3 ≤ p) (odd : p % 2 ≡ 1) (left
       → zeroTest p (E (zGate k)) ≡ bit (eqb (firstDigit left right c j) (secondDigit left right c j))
   zero-equal j h low = ap (zeroTest p) (z-value j h) ∙ equal-test p _ _ prime (omega (arith, low .0)) (omega (arith, low .1))
 
-  pub digit-zero : (j : ℕ) → Solves (values p left right) E k (digitGates p c j k) → isOrder (c .relation) ≡ false → InBase p left right c j
+  pub digit-zero : (j : ℕ) → Solves (values p left right) E k (digitGates p c j k) → isOrder (c .relation) ≡ false
+      → InBase p left right c j
       → E (zGate k + length (zeroGates p k)) ≡ bit (eqb (firstDigit left right c j) (secondDigit left right c j))
   digit-zero j h e low =
       let t : Solves (values p left right) E (suc (zGate k)) (tests false p j k) = rw e at (h .1 .1 .1) in
       zero-value p left right E k (omega arith) t ∙ zero-equal j h low
 
   -- every digit but the lowest has E
-  pub digit-equal : (j : ℕ) → Solves (values p left right) E k (digitGates p c (suc j) k) → isOrder (c .relation) ≡ true → InBase p left right c (suc j)
+  pub digit-equal : (j : ℕ) → Solves (values p left right) E k (digitGates p c (suc j) k) → isOrder (c .relation) ≡ true
+      → InBase p left right c (suc j)
       → E (equalGate p k) ≡ bit (eqb (firstDigit left right c (suc j)) (secondDigit left right c (suc j)))
   digit-equal j h e low =
       let t : Solves (values p left right) E (suc (zGate k)) (tests true p (suc j) k) = rw e at (h .1 .1 .1) in
@@ -113,7 +120,8 @@ module _ (p : ℕ) (three : 3 ≤ p) (odd : p % 2 ≡ 1) (E : ℕ → ℕ) (c : 
       let t : Solves depths E (suc (zGate k)) (tests false p j k) = rw e at (h .1 .1 .1) in
       zero-depth E p k (omega arith) t (z-depth j h)
 
-  pub equal-deep : (j : ℕ) → Solves depths E k (digitGates p c (suc j) k) → isOrder (c .relation) ≡ true → E (equalGate p k) ≡ clog (p - 1)
+  pub equal-deep : (j : ℕ) → Solves depths E k (digitGates p c (suc j) k) → isOrder (c .relation) ≡ true
+      → E (equalGate p k) ≡ clog (p - 1)
   equal-deep j h e =
       let t : Solves depths E (suc (zGate k)) (tests true p (suc j) k) = rw e at (h .1 .1 .1) in
       let s = order-parts p three odd depths E (suc j) k t in

@@ -1,9 +1,9 @@
 -- The digits of a condition one after the other: where each stands, what they name, how many products and squares they have.
 -- Laws of one digit, then of n of them by induction.
 -- Assumes nothing.
-use mathlib.Core.Path.{_≡_, refl}
+use mathlib.Core.Path.{_≡_, refl, sym, ap, subst, _∙_}
 use mathlib.Core.Bool.{Bool, true, false}
-use mathlib.Core.List.{[], _∷_}
+use mathlib.Core.List.{List, [], _∷_, _++_}
 use Prim.Native.Nat.{ℕ, zero, suc, _+_, _-_, _*_, _/_, _%_, _≤_, _<_}
 use native.Mathlib.Omega.{arith}
 use native.Mathlib.Nat.{add-zero, zero-add, add-suc, suc-add}
@@ -11,15 +11,16 @@ use lib.ListN.{length, length-append}
 use Rattle.field.specs.Bit.{bit}
 use Rattle.field.specs.Logarithm.{flog}
 use Rattle.circuit.specs.Count.{count, isProduct, isSquare}
-use Rattle.circuit.specs.Gate.{Left, Right}
+use Rattle.circuit.specs.Gate.{Gate, Left, Right}
 use Rattle.circuit.specs.Meaning.{Algebra}
 use Rattle.circuit.specs.Table.{Head, leftSlots, rightSlots, allFit}
 use Rattle.circuit.proofs.Count.{count-append}
 use Rattle.circuit.proofs.Fitting.{AllFitted, all-fit, fit-append}
 use Rattle.circuit.proofs.Meaning.{Solves, solves-append}
 use Rattle.comparison.specs.Bits.{ones}
+use Rattle.comparison.specs.Condition.{Condition}
 use Rattle.comparison.specs.Difference.{minus, difference, zGate}
-use Rattle.comparison.specs.Digits.{Condition, tests, digitGates, digitsBefore, digitStart, digitsFrom}
+use Rattle.comparison.specs.Digits.{tests, digitGates, digitsBefore, digitStart, digitsFrom}
 use Rattle.comparison.specs.OrderDigit.{half, lessGates, equalGates, equalGate}
 use Rattle.comparison.specs.Relation.{isOrder, isBackward}
 use Rattle.comparison.proofs.EqualityDigit.{zero-length, zero-fits, zero-count}
@@ -38,16 +39,35 @@ module _ (p : ℕ) (three : 3 ≤ p) (odd : p % 2 ≡ 1) where
       → digitStart p c k j + length (digitGates p c j (digitStart p c k j)) ≡ digitStart p c k (suc j)
   digit-next c k j = omega (arith, tests-length (isOrder (c .relation)) j (digitStart p c k j))
 
-  pub digits-length : (c : Condition) (k n j : ℕ) → digitStart p c k j + length (digitsFrom p c k n j) ≡ digitStart p c k (n + j)
+  digits-length : (c : Condition) (k n j : ℕ) → digitStart p c k j + length (digitsFrom p c k n j) ≡ digitStart p c k (n + j)
   unfolding digitsFrom
   digits-length c k zero j = rw (zero-add j) (add-zero _)
   digits-length c k (suc n) j =
       rw (suc-add, ← add-suc n j)
-      (omega (arith, length-append (digitGates p c j (digitStart p c k j)) (digitsFrom p c k n (suc j)), digit-next c k j, digits-length c k n (suc j)))
+      (omega (
+        arith,
+        length-append (digitGates p c j (digitStart p c k j)) (digitsFrom p c k n (suc j)),
+        digit-next c k j,
+        digits-length c k n (suc j),
+      ))
+
+  before-none : (b : Bool) → digitsBefore b p 0 ≡ 0
+  before-none true = omega arith
+  before-none false = omega arith
+
+  start-first : (c : Condition) (k : ℕ) → digitStart p c k 0 ≡ k
+  start-first c k = omega (arith, before-none (isOrder (c .relation)))
+
+  -- all of a condition's digits
+  pub digits-end : (c : Condition) (k : ℕ) → k + length (digitsFrom p c k (c .digits) 0) ≡ digitStart p c k (c .digits)
+  digits-end c k =
+      ap (λ (m : ℕ). m + length (digitsFrom p c k (c .digits) 0)) (sym (start-first c k))
+      ∙ digits-length c k (c .digits) 0
+      ∙ ap (digitStart p c k) (add-zero (c .digits))
 
   -- ---- over any entries: digit number j + i
 
-  pub digit-solved : {A : Type 0} (alg : Algebra A) (E : ℕ → A) (c : Condition) (k n j : ℕ)
+  digit-solved : {A : Type 0} (alg : Algebra A) (E : ℕ → A) (c : Condition) (k n j : ℕ)
       → Solves alg E (digitStart p c k j) (digitsFrom p c k n j) → (i : ℕ) → i < n
       → Solves alg E (digitStart p c k (i + j)) (digitGates p c (i + j) (digitStart p c k (i + j)))
   unfolding digitsFrom
@@ -55,9 +75,17 @@ module _ (p : ℕ) (three : 3 ≤ p) (odd : p % 2 ≡ 1) where
   digit-solved alg E c k (suc n) j h zero l =
       rw (zero-add j) (solves-append alg E (digitGates p c j (digitStart p c k j)) _ (digitStart p c k j) h .0)
   digit-solved alg E c k (suc n) j h (suc i) l =
-      rw (suc-add, ← add-suc i j)
-      (digit-solved alg E c k n (suc j)
-      (rw (digit-next c k j) at (solves-append alg E (digitGates p c j (digitStart p c k j)) _ (digitStart p c k j) h .1)) i (omega arith))
+      let later = solves-append alg E (digitGates p c j (digitStart p c k j)) _ (digitStart p c k j) h .1 in
+      rw (suc-add, ← add-suc i j) (digit-solved alg E c k n (suc j) (rw (digit-next c k j) at later) i (omega arith))
+
+  -- digit number j of a condition, whatever follows the digits
+  pub each-digit : {A : Type 0} (alg : Algebra A) (E : ℕ → A) (c : Condition) (k : ℕ) (later : List Gate)
+      → Solves alg E k (digitsFrom p c k (c .digits) 0 ++ later) → (j : ℕ) → j < c .digits
+      → Solves alg E (digitStart p c k j) (digitGates p c j (digitStart p c k j))
+  each-digit alg E c k later h j l =
+      let digits = digitsFrom p c k (c .digits) 0 in
+      let first = subst (λ (m : ℕ). Solves alg E m digits) (sym (start-first c k)) (solves-append alg E digits later k h .0) in
+      rw (add-zero j) at (digit-solved alg E c k (c .digits) 0 first j l)
 
   -- ---- what they name
 
@@ -81,15 +109,20 @@ module _ (p : ℕ) (three : 3 ≤ p) (odd : p % 2 ≡ 1) where
       (all-fit head k _ (difference-fitted head b (c .left + j) (c .right + j) k l r))
       (rw after (tests-fit head (isOrder (c .relation)) j k prime))
 
-  pub digits-fit : (head : Head) (c : Condition) (k n j : ℕ) → head .prime ≡ p
+  from-fit : (head : Head) (c : Condition) (k n j : ℕ) → head .prime ≡ p
       → c .left + (n + j) ≤ leftSlots head → c .right + (n + j) ≤ rightSlots head
       → allFit head (digitStart p c k j) (digitsFrom p c k n j) ≡ true
   unfolding digitsFrom
-  digits-fit head c k zero j prime l r = all-fit head _ [] tt
-  digits-fit head c k (suc n) j prime l r =
+  from-fit head c k zero j prime l r = all-fit head _ [] tt
+  from-fit head c k (suc n) j prime l r =
       fit-append head (digitStart p c k j) (digitGates p c j (digitStart p c k j)) _
       (digit-fits head c j (digitStart p c k j) prime (omega arith) (omega arith))
-      (rw (digit-next c k j) (digits-fit head c k n (suc j) prime (omega arith) (omega arith)))
+      (rw (digit-next c k j) (from-fit head c k n (suc j) prime (omega arith) (omega arith)))
+
+  pub digits-fit : (head : Head) (c : Condition) (k : ℕ) → head .prime ≡ p
+      → c .left + c .digits ≤ leftSlots head → c .right + c .digits ≤ rightSlots head
+      → allFit head k (digitsFrom p c k (c .digits) 0) ≡ true
+  digits-fit head c k prime l r = rw (start-first c k) at (from-fit head c k (c .digits) 0 prime (omega arith) (omega arith))
 
   -- ---- how many products and squares
 
@@ -106,7 +139,8 @@ module _ (p : ℕ) (three : 3 ≤ p) (odd : p % 2 ≡ 1) where
   equal-count zero k = (refl, refl)
   equal-count (suc j) k = (refl, refl)
 
-  tests-count : (b : Bool) (j k : ℕ) → (count isProduct (tests b p j k) ≡ digitProducts b) × (count isSquare (tests b p j k) ≡ digitSquares b)
+  tests-count : (b : Bool) (j k : ℕ) → (count isProduct (tests b p j k) ≡ digitProducts b)
+      × (count isSquare (tests b p j k) ≡ digitSquares b)
   tests-count true j k =
       let less = less-count p three odd k in
       let equal = equal-count j k in (

@@ -2,8 +2,8 @@
 -- tells whether the two numbers are equal, and is clog of p - 1 and clog of n deep.
 -- The laws of product trees, over the digits' laws: the product of the digits' bits is the bit of the numbers.
 -- Assumes nothing.
-use mathlib.Core.Path.{_≡_, refl, sym, ap, ap₂, subst, _∙_}
-use mathlib.Core.Bool.{Bool, true, false, _&&_}
+use mathlib.Core.Path.{_≡_, refl, sym, ap, ap₂, _∙_}
+use mathlib.Core.Bool.{Bool, true, false}
 use mathlib.Core.List.{List, [], _∷_, _++_, map}
 use Prim.Native.Nat.{ℕ, zero, suc, _+_, _-_, _*_, _%_, _^_, _≤_, _<_}
 use native.Mathlib.Omega.{arith}
@@ -15,6 +15,7 @@ use Rattle.field.specs.Bit.{bit}
 use Rattle.field.specs.Logarithm.{clog, flog}
 use Rattle.field.specs.Primes.{Prime}
 use Rattle.field.specs.Sum.{total}
+use Rattle.field.proofs.Bit.{bit-and, bit-below}
 use Rattle.field.proofs.Logarithm.{clog-factor}
 use Rattle.digits.specs.Number.{base, number, allBelow}
 use Rattle.digits.proofs.Comparing.{number-equal}
@@ -36,27 +37,17 @@ use Rattle.circuit.proofs.Meaning.{Solves, solves-append}
 use Rattle.circuit.proofs.ProductTree.{tree-last, product-fits, product-count, multiply-value, multiply-below, multiply-entry}
 use Rattle.circuit.proofs.TreeDepth.{tree-depth}
 use Rattle.comparison.specs.Bits.{ones}
-use Rattle.comparison.specs.Condition.{equalityFactors, equalityJoining}
+use Rattle.comparison.specs.Condition.{Condition}
 use Rattle.comparison.specs.Difference.{zGate}
-use Rattle.comparison.specs.Digits.{Condition, digitGates, digitStart, digitsFrom}
+use Rattle.comparison.specs.Digits.{digitGates, digitStart, digitsFrom}
 use Rattle.comparison.specs.EqualityDigit.{zeroGates}
 use Rattle.comparison.specs.Formulas.{gatesBeforeFlip}
 use Rattle.comparison.specs.OrderDigit.{ascending}
 use Rattle.comparison.specs.Relation.{isOrder}
-use Rattle.comparison.proofs.Digits.{digits-length, digit-solved, digits-fit, digits-count}
+use Rattle.comparison.specs.Writing.{equalityFactors, equalityJoining}
+use Rattle.comparison.proofs.Digits.{digits-end, each-digit, digits-fit, digits-count}
 use Rattle.comparison.proofs.DigitTests.{firstDigit, secondDigit, InBase, digit-zero, zero-deep}
 use Rattle.comparison.proofs.EqualityDigit.{zero-length}
-
--- ---- bits and numbers
-
-pub bit-and : (a b : Bool) → bit (a && b) ≡ bit a * bit b
-bit-and true true = refl
-bit-and true false = refl
-bit-and false b = omega arith
-
-pub bit-below : (p : ℕ) → 2 ≤ p → (b : Bool) → bit b < p
-bit-below p two true = omega arith
-bit-below p two false = omega arith
 
 -- numbers of a lowest digit and others are equal where these are
 equal-cons : (B x y : ℕ) (xs ys : List ℕ) → x < B → y < B
@@ -66,7 +57,8 @@ equal-cons B x y xs ys l m =
     let parts = number-equal B (x ∷ []) xs (y ∷ []) ys refl (rw (lt-ltb x B l)) (rw (lt-ltb y B m)) in
     rw (rw (number-one B x, number-one B y) at parts) (omega (arith, bit-and (eqb (number B xs) (number B ys)) (eqb x y)))
 
-module _ (p : ℕ) (three : 3 ≤ p) (odd : p % 2 ≡ 1) (c : Condition) (equality : isOrder (c .relation) ≡ false) (some : 1 ≤ c .digits) (k : ℕ) where
+module _ (p : ℕ) (three : 3 ≤ p) (odd : p % 2 ≡ 1) (c : Condition) (equality : isOrder (c .relation) ≡ false)
+    (some : 1 ≤ c .digits) (k : ℕ) where
   -- ---- where the digits and their tests stand
 
   abbrev size : ℕ
@@ -85,9 +77,7 @@ module _ (p : ℕ) (three : 3 ≤ p) (odd : p % 2 ≡ 1) (c : Condition) (equali
   next = k + length digits
 
   next-is : next ≡ start (c .digits)
-  next-is =
-      let whole = digits-length p three odd c k (c .digits) 0 in
-      omega (arith, whole, start-is 0, start-is (c .digits), start-is (c .digits + 0), ap (λ (j : ℕ). size * j) (add-zero (c .digits)))
+  next-is = digits-end p three odd c k
 
   -- ---- the factors
 
@@ -111,8 +101,8 @@ module _ (p : ℕ) (three : 3 ≤ p) (odd : p % 2 ≡ 1) (c : Condition) (equali
       (omega arith, factors-order n (suc j) _ m (omega arith) (omega (arith, start-is (suc n + j), start-is (n + suc j))))
 
   order : InOrder 0 next factors
-  order = factors-order (c .digits) 0 0 next (omega arith)
-      (omega (arith, next-is, start-is (c .digits), start-is (c .digits + 0), ap (λ (j : ℕ). size * j) (add-zero (c .digits))))
+  order =
+      let end = ap start (add-zero (c .digits)) in factors-order (c .digits) 0 0 next (omega arith) (omega (arith, next-is, end))
 
   one-factor : (n j : ℕ) → n ≡ 1 → suc (firstOf (factorsFrom n j) .gate) ≡ start (suc j)
   unfolding equalityFactors least
@@ -133,30 +123,30 @@ module _ (p : ℕ) (three : 3 ≤ p) (odd : p % 2 ≡ 1) (c : Condition) (equali
 
   pub equality-length : length gates ≡ gatesBeforeFlip false p (c .digits)
   equality-length =
-      omega (arith, length-append digits (joined .gates), next-is, start-is (c .digits), product-count next factors enough order .0, factors-length (c .digits) 0)
+      let tree = product-count next factors enough order .0 in
+      omega (arith, length-append digits (joined .gates), next-is, start-is (c .digits), tree, factors-length (c .digits) 0)
 
   pub equality-count : (count isProduct gates ≡ c .digits * (ones (p - 1) - 1) + (c .digits - 1))
       × (count isSquare gates ≡ c .digits * flog (p - 1))
   equality-count =
       let d = rw equality at (digits-count p three odd c k (c .digits) 0) in
       let t = product-count next factors enough order in
-      let n = factors-length (c .digits) 0 in
-      (omega (arith, count-append isProduct digits (joined .gates), d .0, t .1, n), omega (arith, count-append isSquare digits (joined .gates), d .1, t .2))
+      let n = factors-length (c .digits) 0 in (
+        omega (arith, count-append isProduct digits (joined .gates), d .0, t .1, n),
+        omega (arith, count-append isSquare digits (joined .gates), d .1, t .2),
+      )
 
   pub equality-last : suc (joined .output .gate) ≡ k + length gates
   equality-last =
       let n = factors-length (c .digits) 0 in
       tree-last next factors enough
-      (λ single. one-factor (c .digits) 0 (omega arith) ∙ omega (arith, next-is, start-is 1, start-is (c .digits), ap (λ (j : ℕ). size * j) (sym n ∙ single)))
+      (λ single. one-factor (c .digits) 0 (omega arith) ∙ sym (next-is ∙ ap start (sym n ∙ single)))
       ∙ omega (arith, length-append digits (joined .gates), product-count next factors enough order .0)
 
   pub equality-fits : (head : Head) → head .prime ≡ p → c .left + c .digits ≤ leftSlots head → c .right + c .digits ≤ rightSlots head
       → allFit head k gates ≡ true
   equality-fits head prime l r =
-      let first : start 0 ≡ k = omega (arith, start-is 0) in
-      fit-append head k digits (joined .gates)
-      (rw first at (digits-fit p three odd head c k (c .digits) 0 prime (omega arith) (omega arith)))
-      (product-fits head next factors enough order)
+      fit-append head k digits (joined .gates) (digits-fit p three odd head c k prime l r) (product-fits head next factors enough order)
 
   -- ---- over any entries that solve them
 
@@ -164,12 +154,9 @@ module _ (p : ℕ) (three : 3 ≤ p) (odd : p % 2 ≡ 1) (c : Condition) (equali
   digit-output : (j : ℕ) → zGate (start j) + length (zeroGates p (start j)) ≡ start (suc j) - 1
   digit-output j = omega (arith, zero-length p (start j) (omega arith), start-is j, start-is (suc j))
 
-  each-digit : {A : Type 0} (alg : Algebra A) (E : ℕ → A) → Solves alg E k gates
+  digit : {A : Type 0} (alg : Algebra A) (E : ℕ → A) → Solves alg E k gates
       → (j : ℕ) → j < c .digits → Solves alg E (start j) (digitGates p c j (start j))
-  each-digit alg E h j l =
-      let first : k ≡ start 0 = omega (arith, start-is 0) in
-      rw (add-zero j)
-      at (digit-solved p three odd alg E c k (c .digits) 0 (subst (λ (m : ℕ). Solves alg E m digits) first (solves-append alg E digits (joined .gates) k h .0)) j l)
+  digit alg E h = each-digit p three odd alg E c k (joined .gates) h
 
   -- what is true of each digit's output is true of every factor
   every-factor : (P : ℕ → Type 0) → ((j : ℕ) → j < c .digits → P (start (suc j) - 1)) → (n j : ℕ) → n + j ≤ c .digits
@@ -178,7 +165,8 @@ module _ (p : ℕ) (three : 3 ≤ p) (odd : p % 2 ≡ 1) (c : Condition) (equali
   every-factor P h zero j l = tt
   every-factor P h (suc n) j l = (h j (omega arith), every-factor P h n (suc j) (omega arith))
 
-  module _ (prime : Prime p) (left right : List ℕ) (E : ℕ → ℕ) (h : Solves (values p left right) E k gates) (low : (j : ℕ) → InBase p left right c j) where
+  module _ (prime : Prime p) (left right : List ℕ) (E : ℕ → ℕ) (h : Solves (values p left right) E k gates)
+      (low : (j : ℕ) → InBase p left right c j) where
     abbrev x : ℕ → ℕ
     x = firstDigit left right c
 
@@ -188,7 +176,7 @@ module _ (p : ℕ) (three : 3 ≤ p) (odd : p % 2 ≡ 1) (c : Condition) (equali
     factor-value : (j : ℕ) → j < c .digits → E (start (suc j) - 1) ≡ bit (eqb (x j) (y j))
     factor-value j l =
         ap E (sym (digit-output j))
-        ∙ digit-zero p prime three odd left right E c (start j) j (each-digit (values p left right) E h j l) equality (low j)
+        ∙ digit-zero p prime three odd left right E c (start j) j (digit (values p left right) E h j l) equality (low j)
 
     abbrev sameFrom : ℕ → ℕ → Bool
     sameFrom n j = eqb (number (base p) (map x (ascending n j))) (number (base p) (map y (ascending n j)))
@@ -228,11 +216,12 @@ module _ (p : ℕ) (three : 3 ≤ p) (odd : p % 2 ≡ 1) (c : Condition) (equali
   unfolding equalityFactors
   equality-depth E h =
       let s = solves-append depths E digits (joined .gates) k h .1 in
-      multiply-entry E (length factors - 1) next factors (omega (arith, factors-length (c .digits) 0)) s (known (c .digits) 0 (omega arith))
+      let n = factors-length (c .digits) 0 in
+      multiply-entry E (length factors - 1) next factors (omega (arith, n)) s (known (c .digits) 0 (omega arith))
       ∙ equality-node
     where
       deep : (j : ℕ) → j < c .digits → E (start (suc j) - 1) ≡ clog (p - 1)
-      deep j l = ap E (sym (digit-output j)) ∙ zero-deep p three odd E c (start j) j (each-digit depths E h j l) equality
+      deep j l = ap E (sym (digit-output j)) ∙ zero-deep p three odd E c (start j) j (digit depths E h j l) equality
 
       known : (n j : ℕ) → n + j ≤ c .digits → Every (λ (f : Node). E (f .gate) ≡ f .depth) (factorsFrom n j)
       known zero j l = tt

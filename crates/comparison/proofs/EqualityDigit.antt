@@ -1,4 +1,4 @@
--- The gates of the equality digit, for any p from 2 on: what they name, how many there are, their value and their depth.
+-- The gates of the equality digit, for any p from 2 on: their value and their depth, what they name, and how many there are.
 -- By induction on the bits of p - 1; one induction serves value and depth: what a product of powers keeps, the last power has.
 -- Assumes nothing.
 use mathlib.Core.Path.{_≡_, refl, sym, ap, subst, _∙_}
@@ -27,93 +27,6 @@ use Rattle.comparison.specs.Bits.{bits, set, ones}
 use Rattle.comparison.specs.Difference.{zGate}
 use Rattle.comparison.specs.EqualityDigit.{Collected, nothing, power, heldBy, chain, zeroChain, zeroGates}
 use Rattle.comparison.proofs.Bits.{bits-length, worth, bits-worth, ones-some}
-
--- ---- what the gates name
-
-held-later : (c : Collected) (k running : ℕ) → heldBy c running < k → heldBy c k < suc k
-held-later nothing k running h = le-refl (suc k)
-held-later (power collected) k running h = omega arith
-
-chain-fitted : (head : Head) (bs : List Bool) (k running : ℕ) (c : Collected) → running < k → heldBy c running < k
-    → AllFitted head k (chain bs k running c)
-unfolding chain
-chain-fitted head [] k running c l h = (h, tt)
-chain-fitted head (false ∷ bs) k running c l h =
-    ((l, l), chain-fitted head bs (suc k) k c (le-refl _) (held-later c k running h))
-chain-fitted head (true ∷ bs) k running nothing l h =
-    ((l, l), chain-fitted head bs (suc k) k (power k) (le-refl _) (le-refl _))
-chain-fitted head (true ∷ bs) k running (power collected) l h =
-    ((l, l), ((omega arith, le-refl _), chain-fitted head bs (suc (suc k)) k (power (suc k)) (omega arith) (le-refl _)))
-
-start-fitted : (head : Head) (bs : List Bool) (k z : ℕ) → z < k → AllFitted head k (zeroChain bs k z)
-unfolding chain
-start-fitted head [] k z l = (l, tt)
-start-fitted head (false ∷ bs) k z l = chain-fitted head bs k z nothing l l
-start-fitted head (true ∷ bs) k z l = chain-fitted head bs k z (power z) l l
-
-pub zero-fits : (head : Head) (p k : ℕ) → allFit head (suc (zGate k)) (zeroGates p k) ≡ true
-zero-fits head p k = all-fit head _ _ (start-fitted head (bits (p - 1)) _ (zGate k) (le-refl _))
-
--- ---- how many there are
-
--- how many powers are collected
-abbrev had : Collected → ℕ
-had nothing = 0
-had (power collected) = 1
-
--- one square for each bit, one product for each set bit but the first, and FLIP
-chain-length : (bs : List Bool) (k running : ℕ) (c : Collected)
-    → length (chain bs k running c) ≡ suc (length bs + (set bs + had c - 1))
-unfolding chain set
-chain-length [] k running nothing = refl
-chain-length [] k running (power collected) = refl
-chain-length (false ∷ bs) k running c = omega (arith, chain-length bs (suc k) k c)
-chain-length (true ∷ bs) k running nothing = omega (arith, chain-length bs (suc k) k (power k))
-chain-length (true ∷ bs) k running (power collected) = omega (arith, chain-length bs (suc (suc k)) k (power (suc k)))
-
-start-length : (bs : List Bool) (k z : ℕ) → 1 ≤ set bs → suc (length (zeroChain bs k z)) ≡ length bs + set bs
-unfolding set
-start-length [] k z some = absurd (omega arith)
-start-length (false ∷ bs) k z some = omega (arith, chain-length bs k z nothing)
-start-length (true ∷ bs) k z some = omega (arith, chain-length bs k z (power z))
-
-pub zero-length : (p k : ℕ) → 2 ≤ p → length (zeroGates p k) ≡ flog (p - 1) + ones (p - 1)
-unfolding ones
-zero-length p k h =
-    let t = p - 1 in
-    let some : 1 ≤ t = omega arith in
-    omega (arith, start-length (bits t) (suc (zGate k)) (zGate k) (ones-some t some), bits-length t some)
-
--- no power that is collected is multiplied by itself
-chain-count : (bs : List Bool) (k running : ℕ) (c : Collected) → heldBy c running < k
-    → (count isProduct (chain bs k running c) ≡ set bs + had c - 1) × (count isSquare (chain bs k running c) ≡ length bs)
-unfolding chain set count
-chain-count [] k running nothing h = (refl, refl)
-chain-count [] k running (power collected) h = (refl, refl)
-chain-count (false ∷ bs) k running c h =
-    let later = chain-count bs (suc k) k c (held-later c k running h) in
-    rw (eq-eqb running running refl) (omega (arith, later))
-chain-count (true ∷ bs) k running nothing h =
-    let later = chain-count bs (suc k) k (power k) (le-refl _) in
-    rw (eq-eqb running running refl) (omega (arith, later))
-chain-count (true ∷ bs) k running (power collected) h =
-    let later = chain-count bs (suc (suc k)) k (power (suc k)) (le-refl _) in
-    rw (eq-eqb running running refl, ne-eqb collected k (λ e. omega arith)) (omega (arith, later))
-
-start-count : (bs : List Bool) (k z : ℕ) → z < k → 1 ≤ set bs
-    → (count isProduct (zeroChain bs k z) ≡ set bs - 1) × (suc (count isSquare (zeroChain bs k z)) ≡ length bs)
-unfolding set
-start-count [] k z l some = absurd (omega arith)
-start-count (false ∷ bs) k z l some = omega (arith, chain-count bs k z nothing l)
-start-count (true ∷ bs) k z l some = omega (arith, chain-count bs k z (power z) l)
-
-pub zero-count : (p k : ℕ) → 2 ≤ p
-    → (count isProduct (zeroGates p k) ≡ ones (p - 1) - 1) × (count isSquare (zeroGates p k) ≡ flog (p - 1))
-unfolding ones
-zero-count p k h =
-    let t = p - 1 in
-    let some : 1 ≤ t = omega arith in
-    omega (arith, start-count (bits t) (suc (zGate k)) (zGate k) (le-refl _) (ones-some t some), bits-length t some)
 
 -- ---- the last power, over any entries that solve the gates
 
@@ -224,3 +137,90 @@ pub zero-depth : (E : ℕ → ℕ) (p k : ℕ) → 2 ≤ p → Solves depths E (
 zero-depth E p k h s known =
     let found = zero-power depths (λ x e. x ≡ clog e) deeper E p k h s (known ∙ sym (clog-small 1 (le-refl 1))) in
     found .flips ∙ found .holds
+
+-- ---- what the gates name
+
+held-later : (c : Collected) (k running : ℕ) → heldBy c running < k → heldBy c k < suc k
+held-later nothing k running h = le-refl (suc k)
+held-later (power collected) k running h = omega arith
+
+chain-fitted : (head : Head) (bs : List Bool) (k running : ℕ) (c : Collected) → running < k → heldBy c running < k
+    → AllFitted head k (chain bs k running c)
+unfolding chain
+chain-fitted head [] k running c l h = (h, tt)
+chain-fitted head (false ∷ bs) k running c l h =
+    ((l, l), chain-fitted head bs (suc k) k c (le-refl _) (held-later c k running h))
+chain-fitted head (true ∷ bs) k running nothing l h =
+    ((l, l), chain-fitted head bs (suc k) k (power k) (le-refl _) (le-refl _))
+chain-fitted head (true ∷ bs) k running (power collected) l h =
+    ((l, l), ((omega arith, le-refl _), chain-fitted head bs (suc (suc k)) k (power (suc k)) (omega arith) (le-refl _)))
+
+start-fitted : (head : Head) (bs : List Bool) (k z : ℕ) → z < k → AllFitted head k (zeroChain bs k z)
+unfolding chain
+start-fitted head [] k z l = (l, tt)
+start-fitted head (false ∷ bs) k z l = chain-fitted head bs k z nothing l l
+start-fitted head (true ∷ bs) k z l = chain-fitted head bs k z (power z) l l
+
+pub zero-fits : (head : Head) (p k : ℕ) → allFit head (suc (zGate k)) (zeroGates p k) ≡ true
+zero-fits head p k = all-fit head _ _ (start-fitted head (bits (p - 1)) _ (zGate k) (le-refl _))
+
+-- ---- how many there are
+
+-- how many powers are collected
+abbrev had : Collected → ℕ
+had nothing = 0
+had (power collected) = 1
+
+-- one square for each bit, one product for each set bit but the first, and FLIP
+chain-length : (bs : List Bool) (k running : ℕ) (c : Collected)
+    → length (chain bs k running c) ≡ suc (length bs + (set bs + had c - 1))
+unfolding chain set
+chain-length [] k running nothing = refl
+chain-length [] k running (power collected) = refl
+chain-length (false ∷ bs) k running c = omega (arith, chain-length bs (suc k) k c)
+chain-length (true ∷ bs) k running nothing = omega (arith, chain-length bs (suc k) k (power k))
+chain-length (true ∷ bs) k running (power collected) = omega (arith, chain-length bs (suc (suc k)) k (power (suc k)))
+
+start-length : (bs : List Bool) (k z : ℕ) → 1 ≤ set bs → suc (length (zeroChain bs k z)) ≡ length bs + set bs
+unfolding set
+start-length [] k z some = absurd (omega arith)
+start-length (false ∷ bs) k z some = omega (arith, chain-length bs k z nothing)
+start-length (true ∷ bs) k z some = omega (arith, chain-length bs k z (power z))
+
+pub zero-length : (p k : ℕ) → 2 ≤ p → length (zeroGates p k) ≡ flog (p - 1) + ones (p - 1)
+unfolding ones
+zero-length p k h =
+    let t = p - 1 in
+    let some : 1 ≤ t = omega arith in
+    omega (arith, start-length (bits t) (suc (zGate k)) (zGate k) (ones-some t some), bits-length t some)
+
+-- no power that is collected is multiplied by itself
+chain-count : (bs : List Bool) (k running : ℕ) (c : Collected) → heldBy c running < k
+    → (count isProduct (chain bs k running c) ≡ set bs + had c - 1) × (count isSquare (chain bs k running c) ≡ length bs)
+unfolding chain set count
+chain-count [] k running nothing h = (refl, refl)
+chain-count [] k running (power collected) h = (refl, refl)
+chain-count (false ∷ bs) k running c h =
+    let later = chain-count bs (suc k) k c (held-later c k running h) in
+    rw (eq-eqb running running refl) (omega (arith, later))
+chain-count (true ∷ bs) k running nothing h =
+    let later = chain-count bs (suc k) k (power k) (le-refl _) in
+    rw (eq-eqb running running refl) (omega (arith, later))
+chain-count (true ∷ bs) k running (power collected) h =
+    let later = chain-count bs (suc (suc k)) k (power (suc k)) (le-refl _) in
+    rw (eq-eqb running running refl, ne-eqb collected k (λ e. omega arith)) (omega (arith, later))
+
+start-count : (bs : List Bool) (k z : ℕ) → z < k → 1 ≤ set bs
+    → (count isProduct (zeroChain bs k z) ≡ set bs - 1) × (suc (count isSquare (zeroChain bs k z)) ≡ length bs)
+unfolding set
+start-count [] k z l some = absurd (omega arith)
+start-count (false ∷ bs) k z l some = omega (arith, chain-count bs k z nothing l)
+start-count (true ∷ bs) k z l some = omega (arith, chain-count bs k z (power z) l)
+
+pub zero-count : (p k : ℕ) → 2 ≤ p
+    → (count isProduct (zeroGates p k) ≡ ones (p - 1) - 1) × (count isSquare (zeroGates p k) ≡ flog (p - 1))
+unfolding ones
+zero-count p k h =
+    let t = p - 1 in
+    let some : 1 ≤ t = omega arith in
+    omega (arith, start-count (bits t) (suc (zGate k)) (zGate k) (le-refl _) (ones-some t some), bits-length t some)

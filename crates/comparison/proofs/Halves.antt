@@ -1,5 +1,6 @@
 -- The tree of halves: its leaves are the digits in order, it is clog of their count high, and a fact of every digit is one of every leaf.
--- One induction over the splits (`halves-split`), with the first digit and the digit count that a subtree stands for; each law is one use of it.
+-- One induction over the splits (`halves-split`), with the first digit and the digit count that a subtree stands for;
+-- each law is one use of it.
 -- Assumes nothing.
 use mathlib.Core.Path.{_≡_, refl, ap, ap₂, subst, _∙_}
 use mathlib.Core.Bool.{Bool, true, false, not}

@@ -1,9 +1,10 @@
--- Order joining over any tree of digits: its gates keep the rules, its value tells which number is smaller, and it is as deep as the tree is high.
+-- Order joining over any tree of digits: its value tells which number is smaller, it is as deep as the tree is high,
+-- and its gates keep the rules.
 -- By induction over the tree; value and depth over any entries that solve the gates. A join splits a number into its low and high digits,
 -- and of "the high part is smaller" and "the high parts are equal" at most one holds, so the sum of their bits is a bit again.
 -- Assumes nothing.
 use mathlib.Core.Path.{_≡_, sym, ap, ap₂, _∙_}
-use mathlib.Core.Bool.{Bool, true, false, _&&_, _||_, true≢false}
+use mathlib.Core.Bool.{Bool, true, false, _&&_, _||_, and-assoc, and-comm}
 use mathlib.Core.List.{List, [], _∷_, _++_, map, map-append}
 use Prim.Native.Nat.{ℕ, suc, _+_, _≤_, _<_}
 use native.Mathlib.Omega.{arith}
@@ -12,8 +13,8 @@ use borrow.Author.Tests.{lt-ltb, le-ltb, ne-eqb}
 use lib.Dec.{ltb, eqb}
 use lib.ListN.{length, length-append, length-map}
 use Rattle.field.specs.Bit.{bit}
-use Rattle.field.specs.Modular.{residue, addMod, mulMod}
-use Rattle.field.proofs.Modular.{residue-small}
+use Rattle.field.specs.Modular.{addMod, mulMod}
+use Rattle.field.proofs.Bit.{mul-bits, add-bits}
 use Rattle.digits.specs.Number.{number, allBelow}
 use Rattle.digits.proofs.Number.{number-one, below-append}
 use Rattle.digits.proofs.Comparing.{number-less, number-equal}
@@ -27,45 +28,6 @@ use Rattle.circuit.proofs.Fitting.{all-fit, fit-append}
 use Rattle.circuit.proofs.Meaning.{Solves, solves-append}
 use Rattle.comparison.specs.Joining.{joinRun, joinLowest}
 use Rattle.comparison.proofs.Halves.{Each, Upper, each-map}
-
--- ---- the rules
-
-module _ (less equal : ℕ → ℕ) (head : Head) where
-  run-fits : (t : Tree ℕ) (k : ℕ) → Each (λ j. less j < k) t → Each (λ j. equal j < k) t
-      → (allFit head k (joinRun less equal t k .gates) ≡ true)
-      × (joinRun less equal t k .less < k + length (joinRun less equal t k .gates))
-      × (joinRun less equal t k .equal < k + length (joinRun less equal t k .gates))
-  unfolding joinRun
-  run-fits (leaf j) k hl he = (all-fit head k [] tt, omega arith, omega arith)
-  run-fits (join low high) k hl he =
-      let l = joinRun less equal low k in
-      let next = k + length (l .gates) in
-      let h = joinRun less equal high next in
-      let last = Mul (h .equal) (l .less) ∷ Add (h .less) (next + length (h .gates)) ∷ Mul (l .equal) (h .equal) ∷ [] in
-      let fl = run-fits low k (hl .0) (he .0) in
-      let fh = run-fits high next (each-map _ _ (λ j s. omega arith) high (hl .1)) (each-map _ _ (λ j s. omega arith) high (he .1)) in
-      let whole = length-append (l .gates) (h .gates ++ last) in
-      let tail = length-append (h .gates) last in (
-        fit-append head k (l .gates) _ (fl .0) (fit-append head next (h .gates) last (fh .0) (all-fit head _ last (omega arith))),
-        omega arith,
-        omega arith,
-      )
-
-  pub lowest-fits : (t : Tree ℕ) (k : ℕ) → Each (λ j. less j < k) t → Upper (λ j. equal j < k) t
-      → (allFit head k (joinLowest less equal t k .gates) ≡ true)
-      × (joinLowest less equal t k .less < k + length (joinLowest less equal t k .gates))
-  unfolding joinLowest
-  lowest-fits (leaf j) k hl he = (all-fit head k [] tt, omega arith)
-  lowest-fits (join low high) k hl he =
-      let l = joinLowest less equal low k in
-      let next = k + length (l .gates) in
-      let h = joinRun less equal high next in
-      let last = Mul (h .equal) (l .less) ∷ Add (h .less) (next + length (h .gates)) ∷ [] in
-      let fl = lowest-fits low k (hl .0) (he .0) in
-      let fh = run-fits high next (each-map _ _ (λ j s. omega arith) high (hl .1)) (each-map _ _ (λ j s. omega arith) high (he .1)) in
-      let whole = length-append (l .gates) (h .gates ++ last) in
-      let tail = length-append (h .gates) last in
-      (fit-append head k (l .gates) _ (fl .0) (fit-append head next (h .gates) last (fh .0) (all-fit head _ last (omega arith))), omega arith)
 
 -- ---- what entries solve that solve the gates of a join
 
@@ -93,27 +55,10 @@ smaller-other a b = go (decLt a b)
     go (yes l) = rw (lt-ltb a b l) (ne-eqb a b (λ e. omega arith))
     go (no n) = rw (le-ltb a b (omega arith))
 
-module _ (p : ℕ) (two : 2 ≤ p) where
-  zero-small : residue p 0 ≡ 0
-  zero-small = residue-small p 0 (omega arith)
-
-  one-small : residue p 1 ≡ 1
-  one-small = residue-small p 1 two
-
-  less-bit : (a e l : Bool) → (a && e) ≡ false → addMod p (bit a) (mulMod p (bit e) (bit l)) ≡ bit (a || (e && l))
-  less-bit true true l h = absurd (true≢false h)
-  less-bit true false true h = simp (zero-small, one-small)
-  less-bit true false false h = simp (zero-small, one-small)
-  less-bit false true true h = simp one-small
-  less-bit false true false h = simp zero-small
-  less-bit false false true h = simp zero-small
-  less-bit false false false h = simp zero-small
-
-  equal-bit : (l h : Bool) → mulMod p (bit l) (bit h) ≡ bit (h && l)
-  equal-bit true true = one-small
-  equal-bit true false = zero-small
-  equal-bit false true = zero-small
-  equal-bit false false = zero-small
+-- so their bits add up, the second only where the low part is smaller
+less-bit : (p : ℕ) → 2 ≤ p → (a e l : Bool) → (a && e) ≡ false → addMod p (bit a) (mulMod p (bit e) (bit l)) ≡ bit (a || (e && l))
+less-bit p two a e l h =
+    ap (addMod p (bit a)) (mul-bits p two e l) ∙ add-bits p two a (e && l) (sym (and-assoc a e l) ∙ rw h)
 
 -- ---- numbers over a tree
 
@@ -153,16 +98,20 @@ module _ (p : ℕ) (two : 2 ≤ p) (left right : List ℕ) (B : ℕ) (x y less e
     less-join : addMod p (bit (isLess high)) (mulMod p (bit (isEqual high)) (bit (isLess low))) ≡ bit (isLess (join low high))
     unfolding leaves
     less-join =
+        let xs = map x (leaves high) in
+        let ys = map y (leaves high) in
         rw (map-append x (leaves low) (leaves high), map-append y (leaves low) (leaves high))
         (less-bit p two (isLess high) (isEqual high) (isLess low) (smaller-other (numberOf B x high) (numberOf B y high))
-        ∙ ap bit (sym (number-less B (map x (leaves low)) (map x (leaves high)) (map y (leaves low)) (map y (leaves high)) same-length left-below right-below)))
+        ∙ ap bit (sym (number-less B (map x (leaves low)) xs (map y (leaves low)) ys same-length left-below right-below)))
 
     equal-join : mulMod p (bit (isEqual low)) (bit (isEqual high)) ≡ bit (isEqual (join low high))
     unfolding leaves
     equal-join =
+        let xs = map x (leaves high) in
+        let ys = map y (leaves high) in
         rw (map-append x (leaves low) (leaves high), map-append y (leaves low) (leaves high))
-        (equal-bit p two (isEqual low) (isEqual high)
-        ∙ ap bit (sym (number-equal B (map x (leaves low)) (map x (leaves high)) (map y (leaves low)) (map y (leaves high)) same-length left-below right-below)))
+        (mul-bits p two (isEqual low) (isEqual high) ∙ ap bit (and-comm (isEqual low) (isEqual high))
+        ∙ ap bit (sym (number-equal B (map x (leaves low)) xs (map y (leaves low)) ys same-length left-below right-below)))
 
   run-value : (t : Tree ℕ) (k : ℕ) → Solves (values p left right) E k (joinRun less equal t k .gates) → InBase t
       → Each (λ j. E (less j) ≡ bit (ltb (x j) (y j))) t → Each (λ j. E (equal j) ≡ bit (eqb (x j) (y j))) t
@@ -173,7 +122,8 @@ module _ (p : ℕ) (two : 2 ≤ p) (left right : List ℕ) (B : ℕ) (x y less e
       let l = joinRun less equal low k in
       let next = k + length (l .gates) in
       let h = joinRun less equal high next in
-      let parts = join-parts (values p left right) E (l .gates) (h .gates) (Mul (l .equal) (h .equal) ∷ []) (l .less) (h .equal) (h .less) k s in
+      let alg = values p left right in
+      let parts = join-parts alg E (l .gates) (h .gates) (Mul (l .equal) (h .equal) ∷ []) (l .less) (h .equal) (h .less) k s in
       let vl = run-value low k (parts .0) (b .0) (hl .0) (he .0) in
       let vh = run-value high next (parts .1) (b .1) (hl .1) (he .1) in (
         parts .2 ∙ ap₂ (addMod p) (vh .0) (ap₂ (mulMod p) (vh .1) (vl .0)) ∙ less-join low high (b .0),
@@ -224,3 +174,43 @@ module _ (D : ℕ) (less equal : ℕ → ℕ) (E : ℕ → ℕ) where
       let dl = lowest-depth low k (parts .0) (hl .0) (he .0) in
       let dh = run-depth high next (parts .1) (hl .1) (he .1) in
       omega (arith, parts .2)
+
+-- ---- the rules
+
+module _ (less equal : ℕ → ℕ) (head : Head) where
+  run-fits : (t : Tree ℕ) (k : ℕ) → Each (λ j. less j < k) t → Each (λ j. equal j < k) t
+      → (allFit head k (joinRun less equal t k .gates) ≡ true)
+      × (joinRun less equal t k .less < k + length (joinRun less equal t k .gates))
+      × (joinRun less equal t k .equal < k + length (joinRun less equal t k .gates))
+  unfolding joinRun
+  run-fits (leaf j) k hl he = (all-fit head k [] tt, omega arith, omega arith)
+  run-fits (join low high) k hl he =
+      let l = joinRun less equal low k in
+      let next = k + length (l .gates) in
+      let h = joinRun less equal high next in
+      let last = Mul (h .equal) (l .less) ∷ Add (h .less) (next + length (h .gates)) ∷ Mul (l .equal) (h .equal) ∷ [] in
+      let fl = run-fits low k (hl .0) (he .0) in
+      let fh = run-fits high next (each-map _ _ (λ j s. omega arith) high (hl .1)) (each-map _ _ (λ j s. omega arith) high (he .1)) in
+      let whole = length-append (l .gates) (h .gates ++ last) in
+      let tail = length-append (h .gates) last in (
+        fit-append head k (l .gates) _ (fl .0) (fit-append head next (h .gates) last (fh .0) (all-fit head _ last (omega arith))),
+        omega arith,
+        omega arith,
+      )
+
+  pub lowest-fits : (t : Tree ℕ) (k : ℕ) → Each (λ j. less j < k) t → Upper (λ j. equal j < k) t
+      → (allFit head k (joinLowest less equal t k .gates) ≡ true)
+      × (joinLowest less equal t k .less < k + length (joinLowest less equal t k .gates))
+  unfolding joinLowest
+  lowest-fits (leaf j) k hl he = (all-fit head k [] tt, omega arith)
+  lowest-fits (join low high) k hl he =
+      let l = joinLowest less equal low k in
+      let next = k + length (l .gates) in
+      let h = joinRun less equal high next in
+      let last = Mul (h .equal) (l .less) ∷ Add (h .less) (next + length (h .gates)) ∷ [] in
+      let fl = lowest-fits low k (hl .0) (he .0) in
+      let fh = run-fits high next (each-map _ _ (λ j s. omega arith) high (hl .1)) (each-map _ _ (λ j s. omega arith) high (he .1)) in
+      let whole = length-append (l .gates) (h .gates ++ last) in
+      let tail = length-append (h .gates) last in
+      let later = fit-append head next (h .gates) last (fh .0) (all-fit head _ last (omega arith)) in
+      (fit-append head k (l .gates) _ (fl .0) later, omega arith)

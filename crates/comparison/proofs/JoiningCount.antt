@@ -1,6 +1,7 @@
 -- Order joining of n digits by halves: how many gates and products it has, that it has no square, and that its last gate is L.
 -- By induction over the tree, of which the count of leaves and of joins that hold the lowest leaf matter (n and flog n for halves).
--- A MUL is a square only over one gate twice: the operands come from two runs, each a digit's gate or one that the run's own joining wrote.
+-- A MUL is a square only over one gate twice: the operands come from two runs,
+-- each a digit's gate or one that the run's own joining wrote.
 -- Assumes nothing.
 use mathlib.Core.Path.{_≡_, refl, ap, _∙_}
 use mathlib.Core.Logic.{_≢_}
@@ -131,7 +132,8 @@ module _ (less equal : ℕ → ℕ) where
       → suc (joinLowest less equal (halves n 0 n) k .less) ≡ k + length (joinLowest less equal (halves n 0 n) k .gates)
   unfolding joinLowest
   joining-last n k some =
-      halves-whole (λ first m t. (m ≡ 1 → suc (less first) ≡ k) → suc (joinLowest less equal t k .less) ≡ k + length (joinLowest less equal t k .gates))
+      halves-whole
+      (λ first m t. (m ≡ 1 → suc (less first) ≡ k) → suc (joinLowest less equal t k .less) ≡ k + length (joinLowest less equal t k .gates))
       (λ first single. omega (arith, single refl)) (λ first m low high more l h single. lowest-last low high k)
       n some
 
@@ -171,7 +173,8 @@ module _ (less equal : ℕ → ℕ) where
   lowest-apart (join a b) (join c d) k hl hj apart = λ e. omega (arith, lowest-last less equal a b k)
 
   run-count : (t : Tree ℕ) (k : ℕ) → Each (λ j. less j < k) t → Each (Known k) t → Pairs Apart t
-      → (count isProduct (joinRun less equal t k .gates) + 2 ≡ 2 * length (leaves t)) × (count isSquare (joinRun less equal t k .gates) ≡ 0)
+      → (count isProduct (joinRun less equal t k .gates) + 2 ≡ 2 * length (leaves t))
+      × (count isSquare (joinRun less equal t k .gates) ≡ 0)
   unfolding joinRun leaves count
   run-count (leaf j) k hl he apart = (refl, refl)
   run-count (join low high) k hl he apart =
@@ -180,7 +183,8 @@ module _ (less equal : ℕ → ℕ) where
       let h = joinRun less equal high next in
       let end = runEnd l h (next + length (h .gates)) in
       let cl = run-count low k (hl .0) (he .0) (apart .0) in
-      let ch = run-count high next (each-map _ _ (λ j s. omega arith) high (hl .1)) (each-map _ _ (λ j s. omega arith) high (he .1)) (apart .1) in
+      let later : Each (λ j. less j < next) high = each-map _ _ (λ j s. omega arith) high (hl .1) in
+      let ch = run-count high next later (each-map _ _ (λ j s. omega arith) high (he .1)) (apart .1) in
       let two = run-apart low high k (hl .0) (he .0) (he .1) (apart .2) in
       let a = mul-apart (h .equal) (l .less) (two .0) in
       let b = mul-apart (l .equal) (h .equal) (two .1) in (
@@ -199,7 +203,8 @@ module _ (less equal : ℕ → ℕ) where
       let h = joinRun less equal high next in
       let end = lowestEnd l h (next + length (h .gates)) in
       let cl = lowest-count low k (hl .0) (he .0) (apart .0) in
-      let ch = run-count high next (each-map _ _ (λ j s. omega arith) high (hl .1)) (each-map _ _ (λ j s. omega arith) high (he .1)) (apart .1) in
+      let later : Each (λ j. less j < next) high = each-map _ _ (λ j s. omega arith) high (hl .1) in
+      let ch = run-count high next later (each-map _ _ (λ j s. omega arith) high (he .1)) (apart .1) in
       let a = mul-apart (h .equal) (l .less) (lowest-apart low high k (hl .0) (he .1) (apart .2)) in (
         omega (arith, length-append (leaves low) (leaves high), count-three isProduct (l .gates) (h .gates) end),
         omega (arith, count-three isSquare (l .gates) (h .gates) end),
@@ -211,6 +216,6 @@ module _ (less equal : ℕ → ℕ) where
       × (count isSquare (joinLowest less equal (halves n 0 n) k .gates) ≡ 0)
   joining-count n k some hl he apart =
       let trees = halves-counts n some in
-      let counts = lowest-count (halves n 0 n) k (halves-each _ n some hl) (halves-upper (Known k) n some (λ j low high. (low, he j low high)))
-      (halves-pairs Apart n some apart) in
+      let upper = halves-upper (Known k) n some (λ j low high. (low, he j low high)) in
+      let counts = lowest-count (halves n 0 n) k (halves-each _ n some hl) upper (halves-pairs Apart n some apart) in
       (omega arith, counts .1)

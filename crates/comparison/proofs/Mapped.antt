@@ -1,4 +1,5 @@
--- Gates that are written for each number of a list: what solves them and that they fit, place by place; and the places of the two lists of exponents.
+-- Gates that are written for each number of a list: what solves them and that they fit, place by place;
+-- and the places of the two lists of exponents.
 -- Assumes nothing.
 use mathlib.Core.Path.{_≡_, refl, ap, _∙_}
 use mathlib.Core.Bool.{true}

@@ -2,12 +2,12 @@
 -- tells which of the two numbers is smaller, and is clog of p - 1 and clog of n deep.
 -- The laws of joining, over the digits' laws.
 -- Assumes nothing.
-use mathlib.Core.Path.{_≡_, ap, subst, _∙_}
+use mathlib.Core.Path.{_≡_, ap, _∙_}
 use mathlib.Core.Bool.{true}
 use mathlib.Core.List.{List, _++_, map}
 use Prim.Native.Nat.{ℕ, zero, suc, _+_, _-_, _*_, _/_, _%_, _≤_, _<_}
 use native.Mathlib.Omega.{arith}
-use native.Mathlib.Nat.{add-zero, mul-le-mul-left}
+use native.Mathlib.Nat.{mul-le-mul-left}
 use lib.Dec.{ltb, eqb}
 use lib.ListN.{length, length-append}
 use Rattle.field.specs.Bit.{bit}
@@ -24,19 +24,21 @@ use Rattle.circuit.specs.Value.{values}
 use Rattle.circuit.proofs.Count.{count-append}
 use Rattle.circuit.proofs.Fitting.{fit-append}
 use Rattle.circuit.proofs.Meaning.{Solves, solves-append}
-use Rattle.comparison.specs.Condition.{orderJoining}
-use Rattle.comparison.specs.Digits.{Condition, digitGates, digitStart, digitsFrom}
+use Rattle.comparison.specs.Condition.{Condition}
+use Rattle.comparison.specs.Digits.{digitGates, digitStart, digitsFrom}
 use Rattle.comparison.specs.Formulas.{gatesBeforeFlip}
 use Rattle.comparison.specs.Joining.{halves}
 use Rattle.comparison.specs.OrderDigit.{half, ascending, powerCount, lessGate, equalGate}
 use Rattle.comparison.specs.Relation.{isOrder}
-use Rattle.comparison.proofs.Digits.{digits-length, digit-solved, digits-fit, digits-count}
+use Rattle.comparison.specs.Writing.{orderJoining}
+use Rattle.comparison.proofs.Digits.{digits-end, each-digit, digits-fit, digits-count}
 use Rattle.comparison.proofs.DigitTests.{firstDigit, secondDigit, InBase, digit-less, digit-equal, less-deep, equal-deep}
 use Rattle.comparison.proofs.Halves.{halves-leaves, halves-height, halves-each, halves-upper}
 use Rattle.comparison.proofs.Joining.{lowest-fits, lowest-value, lowest-depth}
 use Rattle.comparison.proofs.JoiningCount.{joining-length, joining-count, joining-last}
 
-module _ (p : ℕ) (three : 3 ≤ p) (odd : p % 2 ≡ 1) (c : Condition) (order : isOrder (c .relation) ≡ true) (some : 1 ≤ c .digits) (k : ℕ) where
+module _ (p : ℕ) (three : 3 ≤ p) (odd : p % 2 ≡ 1) (c : Condition) (order : isOrder (c .relation) ≡ true)
+    (some : 1 ≤ c .digits) (k : ℕ) where
   -- ---- where the digits and their tests stand
 
   abbrev size : ℕ
@@ -61,9 +63,7 @@ module _ (p : ℕ) (three : 3 ≤ p) (odd : p % 2 ≡ 1) (c : Condition) (order 
   next = k + length digits
 
   next-is : next ≡ start (c .digits)
-  next-is =
-      let whole = digits-length p three odd c k (c .digits) 0 in
-      omega (arith, whole, start-is 0, start-is (c .digits), start-is (c .digits + 0), ap (λ (j : ℕ). size * j) (add-zero (c .digits)))
+  next-is = digits-end p three odd c k
 
   -- a digit ends before a later one
   earlier : (i j : ℕ) → i < j → size * i + size ≤ size * j
@@ -105,8 +105,10 @@ module _ (p : ℕ) (three : 3 ≤ p) (odd : p % 2 ≡ 1) (c : Condition) (order 
       × (count isSquare gates ≡ c .digits * (half p / 2 + 1))
   order-count =
       let d = rw order at (digits-count p three odd c k (c .digits) 0) in
-      let j = joining-count less equal (c .digits) next some less-before equal-before tests-apart in
-      (omega (arith, count-append isProduct digits (joined .gates), d .0, j .0), omega (arith, count-append isSquare digits (joined .gates), d .1, j .1))
+      let j = joining-count less equal (c .digits) next some less-before equal-before tests-apart in (
+        omega (arith, count-append isProduct digits (joined .gates), d .0, j .0),
+        omega (arith, count-append isSquare digits (joined .gates), d .1, j .1),
+      )
 
   pub order-last : suc (joined .output .gate) ≡ k + length gates
   order-last =
@@ -117,48 +119,47 @@ module _ (p : ℕ) (three : 3 ≤ p) (odd : p % 2 ≡ 1) (c : Condition) (order 
   pub order-fits : (head : Head) → head .prime ≡ p → c .left + c .digits ≤ leftSlots head → c .right + c .digits ≤ rightSlots head
       → allFit head k gates ≡ true
   order-fits head prime l r =
-      let first : start 0 ≡ k = omega (arith, start-is 0) in
-      fit-append head k digits (joined .gates)
-      (rw first at (digits-fit p three odd head c k (c .digits) 0 prime (omega arith) (omega arith)))
+      fit-append head k digits (joined .gates) (digits-fit p three odd head c k prime l r)
       (lowest-fits less equal head (halves (c .digits) 0 (c .digits)) next
       (halves-each _ (c .digits) some less-before) (halves-upper _ (c .digits) some equal-before) .0)
 
   -- ---- over any entries that solve them
 
-  module _ {A : Type 0} (alg : Algebra A) (E : ℕ → A) (h : Solves alg E k gates) where
-    each-digit : (j : ℕ) → j < c .digits → Solves alg E (start j) (digitGates p c j (start j))
-    each-digit j l =
-        let first : k ≡ start 0 = omega (arith, start-is 0) in
-        rw (add-zero j) at (digit-solved p three odd alg E c k (c .digits) 0 (subst (λ (m : ℕ). Solves alg E m digits) first (solves-append alg E digits (joined .gates) k h .0)) j l)
+  digit : {A : Type 0} (alg : Algebra A) (E : ℕ → A) → Solves alg E k gates
+      → (j : ℕ) → j < c .digits → Solves alg E (start j) (digitGates p c j (start j))
+  digit alg E h = each-digit p three odd alg E c k (joined .gates) h
 
-    joining-solved : Solves alg E next (joined .gates)
-    joining-solved = solves-append alg E digits (joined .gates) k h .1
+  joining-solved : {A : Type 0} (alg : Algebra A) (E : ℕ → A) → Solves alg E k gates → Solves alg E next (joined .gates)
+  joining-solved alg E h = solves-append alg E digits (joined .gates) k h .1
 
   pub order-value : Prime p → (left right : List ℕ) (E : ℕ → ℕ) → Solves (values p left right) E k gates
       → ((j : ℕ) → InBase p left right c j)
-      → E (joined .output .gate)
-      ≡ bit (ltb (number (base p) (map (firstDigit left right c) (ascending (c .digits) 0))) (number (base p) (map (secondDigit left right c) (ascending (c .digits) 0))))
+      → let js = ascending (c .digits) 0 in
+      E (joined .output .gate)
+      ≡ bit (ltb (number (base p) (map (firstDigit left right c) js)) (number (base p) (map (secondDigit left right c) js)))
   order-value prime left right E h low =
       let alg = values p left right in
       let tree = halves (c .digits) 0 (c .digits) in
       lowest-value p (omega arith) left right (base p) (firstDigit left right c) (secondDigit left right c) less equal E tree next
       (joining-solved alg E h)
       (halves-each _ (c .digits) some (λ j l. low j))
-      (halves-each _ (c .digits) some (λ j l. digit-less p prime three odd left right E c (start j) j (each-digit alg E h j l) order (low j)))
+      (halves-each _ (c .digits) some (λ j l. digit-less p prime three odd left right E c (start j) j (digit alg E h j l) order (low j)))
       (halves-upper _ (c .digits) some (λ j. above j))
       ∙ rw (halves-leaves (c .digits) some)
     where
       above : (j : ℕ) → 0 < j → j < c .digits → E (equal j) ≡ bit (eqb (firstDigit left right c j) (secondDigit left right c j))
       above zero z l = absurd (omega arith)
-      above (suc j) z l = digit-equal p prime three odd left right E c (start (suc j)) j (each-digit (values p left right) E h (suc j) l) order (low (suc j))
+      above (suc j) z l =
+          let s = digit (values p left right) E h (suc j) l in
+          digit-equal p prime three odd left right E c (start (suc j)) j s order (low (suc j))
 
   pub order-depth : (E : ℕ → ℕ) → Solves depths E k gates → E (joined .output .gate) ≡ clog (p - 1) + clog (c .digits)
   order-depth E h =
       lowest-depth (clog (p - 1)) less equal E (halves (c .digits) 0 (c .digits)) next (joining-solved depths E h)
-      (halves-each _ (c .digits) some (λ j l. less-deep p three odd E c (start j) j (each-digit depths E h j l) order))
+      (halves-each _ (c .digits) some (λ j l. less-deep p three odd E c (start j) j (digit depths E h j l) order))
       (halves-upper _ (c .digits) some (λ j. above j))
       ∙ halves-height (clog (p - 1)) (c .digits) some
     where
       above : (j : ℕ) → 0 < j → j < c .digits → E (equal j) ≡ clog (p - 1)
       above zero z l = absurd (omega arith)
-      above (suc j) z l = equal-deep p three odd E c (start (suc j)) j (each-digit depths E h (suc j) l) order
+      above (suc j) z l = equal-deep p three odd E c (start (suc j)) j (digit depths E h (suc j) l) order

@@ -63,7 +63,12 @@ module _ (p : ℕ) (three : 3 ≤ p) (odd : p % 2 ≡ 1) where
   pub less-length : (k : ℕ) → length (lessGates p k) ≡ powerCount p + p
   less-length k =
       length-append (powers p (zGate k)) _
-      ∙ omega (arith, powers-length p (zGate k) three, exponents-length p, terms-length p (zGate k) (termStart p k) (orderExponents p) (omega (arith, exponents-length p)))
+      ∙ omega (
+        arith,
+        powers-length p (zGate k) three odd,
+        exponents-length p,
+        terms-length p (zGate k) (termStart p k) (orderExponents p) (omega (arith, exponents-length p)),
+      )
 
   pub less-count : (k : ℕ) → (count isProduct (lessGates p k) ≡ half p - 1) × (count isSquare (lessGates p k) ≡ half p / 2 + 1)
   less-count k =
@@ -79,7 +84,7 @@ module _ (p : ℕ) (three : 3 ≤ p) (odd : p % 2 ≡ 1) where
   pub less-fits : (head : Head) (k : ℕ) → head .prime ≡ p → allFit head (suc (zGate k)) (lessGates p k) ≡ true
   less-fits head k prime =
       let z = zGate k in
-      let after : suc z + length (powers p z) ≡ termStart p k = omega (arith, powers-length p z three) in
+      let after : suc z + length (powers p z) ≡ termStart p k = omega (arith, powers-length p z three odd) in
       fit-append head (suc z) (powers p z) _ (powers-fit head p z three odd)
       (rw after (terms-fit head p z (omega arith) prime (termStart p k) (orderExponents p)
       (every-exponent _ p three odd (λ i one asked. power-before p z i odd three one asked))))
@@ -97,7 +102,7 @@ module _ (p : ℕ) (three : 3 ≤ p) (odd : p % 2 ≡ 1) where
       × Solves alg E (termStart p k) (terms p (zGate k) (termStart p k) (orderExponents p))
   parts alg E k h =
       let z = zGate k in
-      let after : suc z + length (powers p z) ≡ termStart p k = omega (arith, powers-length p z three) in
+      let after : suc z + length (powers p z) ≡ termStart p k = omega (arith, powers-length p z three odd) in
       let s = solves-append alg E (powers p z) _ (suc z) h in (s .0, rw after at (s .1))
 
   -- the sum is the last of the terms
@@ -117,11 +122,15 @@ module _ (p : ℕ) (three : 3 ≤ p) (odd : p % 2 ≡ 1) where
     unfolding orderPolynomial
     less-value =
         let ts = parts (values p left right) E k h .1 in
-        sym (mod-eq-of-lt (terms-below left right E p (zGate k) (E (zGate k)) (omega arith) (termStart p k) (lessGate p k) (orderExponents p) some (sum-last k) ts))
-        ∙ terms-value left right E p (zGate k) (E (zGate k)) (omega arith) (termStart p k) (lessGate p k) (orderExponents p) some (sum-last k)
-        (every-exponent _ p three odd power-is) ts
+        let z = zGate k in
+        let t = termStart p k in
+        let last = lessGate p k in
+        let is = orderExponents p in
+        sym (mod-eq-of-lt (terms-below left right E p z (E z) (omega arith) t last is some (sum-last k) ts))
+        ∙ terms-value left right E p z (E z) (omega arith) t last is some (sum-last k) (every-exponent _ p three odd power-is) ts
 
-    pub equal-value : (j : ℕ) → Solves (values p left right) E (equalGate p k) (equalGates p (suc j) k) → E (equalGate p k) ≡ zeroTest p (E (zGate k))
+    pub equal-value : (j : ℕ) → Solves (values p left right) E (equalGate p k) (equalGates p (suc j) k)
+        → E (equalGate p k) ≡ zeroTest p (E (zGate k))
     equal-value j e = e .0 ∙ sub-cong p 1 _ _ (omega arith) (power-is (p - 1) (omega arith) (inr refl))
 
   -- ---- depths

@@ -1,4 +1,5 @@
--- The powers of an order digit: each is written at its place, names only powers below it, is the power that it stands for, and is clog of its exponent deep.
+-- The powers of an order digit: each is written at its place, names only powers below it, is the power that it stands for,
+-- and is clog of its exponent deep.
 -- Over any entries that solve the gates a power is the product of the powers of its halves (`low-step`, `odd-step`, `last-step`);
 -- values and depths follow by halving the exponent.
 -- Assumes nothing.
@@ -19,7 +20,7 @@ use Rattle.circuit.specs.Depth.{depths}
 use Rattle.circuit.specs.Meaning.{Algebra, meaning}
 use Rattle.circuit.specs.Value.{values}
 use Rattle.circuit.proofs.Meaning.{Solves, solves-append}
-use Rattle.comparison.specs.OrderDigit.{half, lowExponents, oddExponents, lowPower, powerOf, powers, powerCount, powerGate}
+use Rattle.comparison.specs.OrderDigit.{half, lowExponents, nextOdd, oddExponents, lowPower, powerOf, powers, powerCount, powerGate}
 use Rattle.comparison.proofs.Mapped.{solves-map, length-ascending, ascending-at, length-second, second-at}
 
 -- the exponents above (p-1)/2 that are written: odd ones up to p - 2, and p - 1
@@ -48,17 +49,22 @@ gate-high p z i l = rw (lt-leb i (half p) l, powerGate)
 pub low-length : (p z : ℕ) → length (map (powerOf z) (lowExponents p)) ≡ half p - 1
 low-length p z = length-map (lowExponents p) (powerOf z) ∙ length-ascending (half p - 1) 2
 
-pub odd-length : (p z : ℕ) → length (map (powerOf z) (oddExponents p)) ≡ half p / 2
-odd-length p z = length-map (oddExponents p) (powerOf z) ∙ length-second (half p / 2) _
+-- as many as half of (p-1)/2
+pub odd-count : (p : ℕ) → p % 2 ≡ 1 → length (oddExponents p) ≡ half p / 2
+odd-count p odd = length-second _ _ ∙ omega arith
 
-pub powers-length : (p z : ℕ) → 3 ≤ p → length (powers p z) ≡ powerCount p
-powers-length p z three =
+pub odd-length : (p z : ℕ) → p % 2 ≡ 1 → length (map (powerOf z) (oddExponents p)) ≡ half p / 2
+odd-length p z odd = length-map (oddExponents p) (powerOf z) ∙ odd-count p odd
+
+pub powers-length : (p z : ℕ) → 3 ≤ p → p % 2 ≡ 1 → length (powers p z) ≡ powerCount p
+powers-length p z three odd =
     length-append (map (powerOf z) (lowExponents p)) _
-    ∙ omega (arith, low-length p z, odd-length p z, length-append (map (powerOf z) (oddExponents p)) (powerOf z (p - 1) ∷ []))
+    ∙ omega (arith, low-length p z, odd-length p z odd, length-append (map (powerOf z) (oddExponents p)) (powerOf z (p - 1) ∷ []))
 
 -- ---- what they are, over any entries
 
-module _ {A : Type 0} (alg : Algebra A) (E : ℕ → A) (p z : ℕ) (three : 3 ≤ p) (odd : p % 2 ≡ 1) (h : Solves alg E (suc z) (powers p z)) where
+module _ {A : Type 0} (alg : Algebra A) (E : ℕ → A) (p z : ℕ) (three : 3 ≤ p) (odd : p % 2 ≡ 1)
+    (h : Solves alg E (suc z) (powers p z)) where
   -- the product of the powers of the halves
   abbrev halved : ℕ → A
   halved i = alg .mul (E (lowPower z (i / 2))) (E (lowPower z ((i + 1) / 2)))
@@ -80,10 +86,10 @@ module _ {A : Type 0} (alg : Algebra A) (E : ℕ → A) (p z : ℕ) (three : 3 �
 
   odd-step : (i : ℕ) → i % 2 ≡ 1 → half p < i → i < p - 1 → E (powerGate p z i) ≡ halved i
   odd-step i o l u =
-      let first = half p + 1 + half p % 2 in
+      let first = nextOdd (half p) in
       let m = (i - first) / 2 in
-      let place : m < length (oddExponents p) = omega (arith, length-second (half p / 2) first) in
-      let e : getD (oddExponents p) m 0 ≡ i = second-at (half p / 2) first m (omega arith) ∙ omega arith in
+      let place : m < length (oddExponents p) = omega (arith, odd-count p odd) in
+      let e : getD (oddExponents p) m 0 ≡ i = second-at ((p - first) / 2) first m (omega arith) ∙ omega arith in
       ap E (gate-high p z i l ∙ omega arith)
       ∙ solves-map alg E (powerOf z) (oddExponents p) (z + half p)
       (solves-append alg E (map (powerOf z) (oddExponents p)) _ (z + half p) after-low .0) m place
@@ -91,7 +97,7 @@ module _ {A : Type 0} (alg : Algebra A) (E : ℕ → A) (p z : ℕ) (three : 3 �
 
   last-step : E (powerGate p z (p - 1)) ≡ halved (p - 1)
   last-step =
-      ap E (gate-high p z (p - 1) (omega arith) ∙ omega (arith, odd-length p z))
+      ap E (gate-high p z (p - 1) (omega arith) ∙ omega (arith, odd-length p z odd))
       ∙ solves-append alg E (map (powerOf z) (oddExponents p)) _ (z + half p) after-low .1 .0
 
   -- those above (p-1)/2 that are written

@@ -14,9 +14,9 @@ use Rattle.circuit.specs.Count.{count, isProduct, isSquare}
 use Rattle.circuit.specs.Table.{Head, allFit}
 use Rattle.circuit.proofs.Count.{count-append}
 use Rattle.circuit.proofs.Fitting.{all-fit, fit-append}
-use Rattle.comparison.specs.OrderDigit.{half, ascending, lowExponents, oddExponents, lowPower, powerOf, powers}
-use Rattle.comparison.proofs.Mapped.{fit-map, length-ascending, ascending-at, length-second, second-at}
-use Rattle.comparison.proofs.Powers.{low-length}
+use Rattle.comparison.specs.OrderDigit.{half, ascending, lowExponents, nextOdd, oddExponents, lowPower, powerOf, powers}
+use Rattle.comparison.proofs.Mapped.{fit-map, length-ascending, ascending-at, second-at}
+use Rattle.comparison.proofs.Powers.{low-length, odd-count}
 
 -- ---- what they name
 
@@ -26,9 +26,9 @@ low-fit head p z = fit-map head (powerOf z) (lowExponents p) (suc z) (λ m l.
 
 odd-fit : (head : Head) (p z : ℕ) → 3 ≤ p → p % 2 ≡ 1 → allFit head (z + half p) (map (powerOf z) (oddExponents p)) ≡ true
 odd-fit head p z three odd = fit-map head (powerOf z) (oddExponents p) (z + half p) (λ m l.
-    let first = half p + 1 + half p % 2 in
-    let inside : m < half p / 2 = omega (arith, length-second (half p / 2) first) in
-    let e = second-at (half p / 2) first m inside in omega arith)
+    let first = nextOdd (half p) in
+    let inside : m < half p / 2 = omega (arith, odd-count p odd) in
+    let e = second-at ((p - first) / 2) first m (omega arith) in omega arith)
 
 pub powers-fit : (head : Head) (p z : ℕ) → 3 ≤ p → p % 2 ≡ 1 → allFit head (suc z) (powers p z) ≡ true
 powers-fit head p z three odd =
@@ -42,10 +42,12 @@ powers-fit head p z three odd =
 -- ---- how many are products and squares
 
 -- how many odd numbers and how many even ones up to i there are, after one more
-parity : (z i : ℕ) → 2 ≤ i → (bit (isProduct (powerOf z i)) + i / 2 ≡ (i + 1) / 2) × (bit (isSquare (powerOf z i)) + (i + 1) / 2 ≡ (i + 2) / 2)
+parity : (z i : ℕ) → 2 ≤ i → (bit (isProduct (powerOf z i)) + i / 2 ≡ (i + 1) / 2)
+    × (bit (isSquare (powerOf z i)) + (i + 1) / 2 ≡ (i + 2) / 2)
 parity z i two = go (ℕ-discrete (i % 2) 0)
   where
-    go : Dec (i % 2 ≡ 0) → (bit (isProduct (powerOf z i)) + i / 2 ≡ (i + 1) / 2) × (bit (isSquare (powerOf z i)) + (i + 1) / 2 ≡ (i + 2) / 2)
+    go : Dec (i % 2 ≡ 0) → (bit (isProduct (powerOf z i)) + i / 2 ≡ (i + 1) / 2)
+        × (bit (isSquare (powerOf z i)) + (i + 1) / 2 ≡ (i + 2) / 2)
     go (yes e) = rw (eq-eqb (lowPower z (i / 2)) (lowPower z ((i + 1) / 2)) (omega arith)) (omega arith)
     go (no n) = rw (ne-eqb (lowPower z (i / 2)) (lowPower z ((i + 1) / 2)) (λ q. omega arith)) (omega arith)
 
@@ -59,13 +61,13 @@ low-count z (suc n) i two =
     let later = low-count z n (suc i) (omega arith) in
     (omega (arith, here .0, later .0), omega (arith, here .1, later .1))
 
-odd-count : (z n i : ℕ) → 2 ≤ i → i % 2 ≡ 1
+second-count : (z n i : ℕ) → 2 ≤ i → i % 2 ≡ 1
     → (count isProduct (map (powerOf z) (everySecond n i)) ≡ n) × (count isSquare (map (powerOf z) (everySecond n i)) ≡ 0)
 unfolding everySecond count
-odd-count z zero i two odd = omega arith
-odd-count z (suc n) i two odd =
+second-count z zero i two odd = omega arith
+second-count z (suc n) i two odd =
     let here = parity z i two in
-    let later = odd-count z n (suc (suc i)) (omega arith) (omega arith) in
+    let later = second-count z n (suc (suc i)) (omega arith) (omega arith) in
     (omega (arith, here .0, later .0), omega (arith, here .1, later .1))
 
 pub powers-count : (p z : ℕ) → 3 ≤ p → p % 2 ≡ 1
@@ -76,7 +78,7 @@ powers-count p z three odd =
     let odds = map (powerOf z) (oddExponents p) in
     let top = powerOf z (p - 1) ∷ [] in
     let lows = low-count z (half p - 1) 2 (omega arith) in
-    let others = odd-count z (half p / 2) (half p + 1 + half p % 2) (omega arith) (omega arith) in
+    let others = second-count z ((p - nextOdd (half p)) / 2) (nextOdd (half p)) (omega arith) (omega arith) in
     let last = parity z (p - 1) (omega arith) in (
       omega (arith, count-append isProduct low (odds ++ top), count-append isProduct odds top, lows .0, others .0, last .0),
       omega (arith, count-append isSquare low (odds ++ top), count-append isSquare odds top, lows .1, others .1, last .1),

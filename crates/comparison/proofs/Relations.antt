@@ -12,13 +12,9 @@ use borrow.Author.Tests.{lt-ltb, le-ltb, le-leb, lt-leb}
 use lib.Dec.{ltb, leb, eqb}
 use lib.ListN.{length, take, drop, getD}
 use lib.Seq.{drop-cons}
-use Rattle.field.specs.Bit.{bit}
-use Rattle.field.specs.Modular.{subMod}
-use Rattle.field.proofs.Modular.{sub-down}
 use Rattle.digits.specs.Number.{base, number, allBelow}
 use Rattle.digits.proofs.Number.{below-at}
-use Rattle.comparison.specs.Digits.{Condition}
-use Rattle.comparison.specs.Holds.{numberIn}
+use Rattle.comparison.specs.Condition.{Condition, numberIn}
 use Rattle.comparison.specs.OrderDigit.{ascending}
 use Rattle.comparison.specs.Relation.{Relation, Less, AtMost, Greater, AtLeast, Equal, NotEqual, isTrue, isOrder, isBackward, isFlipped}
 use Rattle.comparison.proofs.DigitTests.{minuend, subtrahend, firstDigit, secondDigit, InBase}
@@ -50,11 +46,6 @@ relation-is AtLeast x y = not-greater y x
 relation-is Equal x y = refl
 relation-is NotEqual x y = refl
 
--- FLIP of a bit
-pub flip-bit : (p : ℕ) → 2 ≤ p → (b : Bool) → subMod p 1 (bit b) ≡ bit (not b)
-flip-bit p two true = sub-down p 1 1 (omega arith) (omega arith)
-flip-bit p two false = sub-down p 1 0 (omega arith) (omega arith)
-
 -- ---- slots
 
 slots-from : (side : List ℕ) (first n i : ℕ) → first + (n + i) ≤ length side
@@ -78,7 +69,8 @@ pair-number : (B : ℕ) (f g : ℕ → ℕ) (js : List ℕ) (b : Bool)
 pair-number B f g js true = (refl, refl)
 pair-number B f g js false = (refl, refl)
 
-module _ (B : ℕ) (left right : List ℕ) (c : Condition) (l : c .left + c .digits ≤ length left) (r : c .right + c .digits ≤ length right) where
+module _ (B : ℕ) (left right : List ℕ) (c : Condition)
+    (l : c .left + c .digits ≤ length left) (r : c .right + c .digits ≤ length right) where
   abbrev leftNumber : ℕ
   leftNumber = numberIn B (c .left) (c .digits) left
 
@@ -102,4 +94,5 @@ either-below B false x y l m = (l, m)
 pub in-base : (p : ℕ) (left right : List ℕ) (c : Condition) → 0 < base p → allBelow (base p) left ≡ true → allBelow (base p) right ≡ true
     → (j : ℕ) → InBase p left right c j
 in-base p left right c some hl hr j =
-    either-below (base p) (isBackward (c .relation)) _ _ (below-at (base p) left (c .left + j) some hl) (below-at (base p) right (c .right + j) some hr)
+    either-below (base p) (isBackward (c .relation)) _ _
+    (below-at (base p) left (c .left + j) some hl) (below-at (base p) right (c .right + j) some hr)

@@ -1,4 +1,5 @@
--- The terms of an order digit: over any entries that solve them, the last gate is the sum of the constants times the powers, and as deep as the deepest power.
+-- The terms of an order digit: over any entries that solve them, the last gate is the sum of the constants times the powers,
+-- and as deep as the deepest power.
 -- By induction on the terms after the first, from the sum so far.
 -- Assumes nothing.
 use mathlib.Core.Path.{_≡_, refl, ap, _∙_}
@@ -24,47 +25,6 @@ use Rattle.circuit.proofs.Every.{every-map}
 use Rattle.circuit.proofs.Fitting.{one-fits}
 use Rattle.circuit.proofs.Meaning.{Solves}
 use Rattle.comparison.specs.OrderDigit.{powerGate, term, laterTerms, terms}
-
--- ---- how many gates they are; none is a product
-
-later-length : (p z k sum : ℕ) (is : List ℕ) → length (laterTerms p z k sum is) ≡ 2 * length is
-unfolding laterTerms
-later-length p z k sum [] = refl
-later-length p z k sum (i ∷ is) = omega (arith, later-length p z (suc (suc k)) (suc k) is)
-
-pub terms-length : (p z k : ℕ) (is : List ℕ) → 1 ≤ length is → suc (length (terms p z k is)) ≡ 2 * length is
-terms-length p z k [] some = absurd (omega arith)
-terms-length p z k (i ∷ is) some = omega (arith, later-length p z (suc k) k is)
-
-later-count : (p z k sum : ℕ) (is : List ℕ) → (count isProduct (laterTerms p z k sum is) ≡ 0) × (count isSquare (laterTerms p z k sum is) ≡ 0)
-unfolding laterTerms count
-later-count p z k sum [] = (refl, refl)
-later-count p z k sum (i ∷ is) = let later = later-count p z (suc (suc k)) (suc k) is in omega (arith, later .0, later .1)
-
-pub terms-count : (p z k : ℕ) (is : List ℕ) → (count isProduct (terms p z k is) ≡ 0) × (count isSquare (terms p z k is) ≡ 0)
-unfolding count
-terms-count p z k [] = (refl, refl)
-terms-count p z k (i ∷ is) = let later = later-count p z (suc k) k is in omega (arith, later .0, later .1)
-
--- ---- what they name
-
-module _ (head : Head) (p z : ℕ) (two : 2 ≤ p) (prime : head .prime ≡ p) where
-  term-fits : (k i : ℕ) → powerGate p z i < k → fits head k (term p z i) ≡ true
-  term-fits k i l =
-      one-fits head k (term p z i) (l, rw prime (code-fits p (orderConstant p i) (constant-below p i two)))
-
-  later-fit : (k sum : ℕ) (is : List ℕ) → sum < k → Every (λ i. powerGate p z i < k) is → allFit head k (laterTerms p z k sum is) ≡ true
-  unfolding laterTerms allFit
-  later-fit k sum [] l low = refl
-  later-fit k sum (i ∷ is) l low =
-      rw (term-fits k i (low .0), one-fits head (suc k) (Add sum k) (omega arith))
-      (later-fit (suc (suc k)) (suc k) is (omega arith) (every-map (λ i m. omega arith) is (low .1)))
-
-  pub terms-fit : (k : ℕ) (is : List ℕ) → Every (λ i. powerGate p z i < k) is → allFit head k (terms p z k is) ≡ true
-  unfolding allFit
-  terms-fit k [] low = refl
-  terms-fit k (i ∷ is) low =
-      rw (term-fits k i (low .0)) (later-fit (suc k) k is (omega arith) (every-map (λ i m. omega arith) is (low .1)))
 
 -- ---- values
 
@@ -155,3 +115,45 @@ module _ (E : ℕ → ℕ) (p z : ℕ) where
   terms-within D k last [] some e h within = absurd (omega arith)
   terms-within D k last (i ∷ is) some e h within =
       later-within D k last is (omega arith) (h .1) (omega (arith, h .0, within .0)) (within .1)
+
+-- ---- how many gates they are; none is a product
+
+later-length : (p z k sum : ℕ) (is : List ℕ) → length (laterTerms p z k sum is) ≡ 2 * length is
+unfolding laterTerms
+later-length p z k sum [] = refl
+later-length p z k sum (i ∷ is) = omega (arith, later-length p z (suc (suc k)) (suc k) is)
+
+pub terms-length : (p z k : ℕ) (is : List ℕ) → 1 ≤ length is → suc (length (terms p z k is)) ≡ 2 * length is
+terms-length p z k [] some = absurd (omega arith)
+terms-length p z k (i ∷ is) some = omega (arith, later-length p z (suc k) k is)
+
+later-count : (p z k sum : ℕ) (is : List ℕ) → (count isProduct (laterTerms p z k sum is) ≡ 0)
+    × (count isSquare (laterTerms p z k sum is) ≡ 0)
+unfolding laterTerms count
+later-count p z k sum [] = (refl, refl)
+later-count p z k sum (i ∷ is) = let later = later-count p z (suc (suc k)) (suc k) is in omega (arith, later .0, later .1)
+
+pub terms-count : (p z k : ℕ) (is : List ℕ) → (count isProduct (terms p z k is) ≡ 0) × (count isSquare (terms p z k is) ≡ 0)
+unfolding count
+terms-count p z k [] = (refl, refl)
+terms-count p z k (i ∷ is) = let later = later-count p z (suc k) k is in omega (arith, later .0, later .1)
+
+-- ---- what they name
+
+module _ (head : Head) (p z : ℕ) (two : 2 ≤ p) (prime : head .prime ≡ p) where
+  term-fits : (k i : ℕ) → powerGate p z i < k → fits head k (term p z i) ≡ true
+  term-fits k i l =
+      one-fits head k (term p z i) (l, rw prime (code-fits p (orderConstant p i) (constant-below p i two)))
+
+  later-fit : (k sum : ℕ) (is : List ℕ) → sum < k → Every (λ i. powerGate p z i < k) is → allFit head k (laterTerms p z k sum is) ≡ true
+  unfolding laterTerms allFit
+  later-fit k sum [] l low = refl
+  later-fit k sum (i ∷ is) l low =
+      rw (term-fits k i (low .0), one-fits head (suc k) (Add sum k) (omega arith))
+      (later-fit (suc (suc k)) (suc k) is (omega arith) (every-map (λ i m. omega arith) is (low .1)))
+
+  pub terms-fit : (k : ℕ) (is : List ℕ) → Every (λ i. powerGate p z i < k) is → allFit head k (terms p z k is) ≡ true
+  unfolding allFit
+  terms-fit k [] low = refl
+  terms-fit k (i ∷ is) low =
+      rw (term-fits k i (low .0)) (later-fit (suc k) k is (omega arith) (every-map (λ i m. omega arith) is (low .1)))

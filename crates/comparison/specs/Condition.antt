@@ -1,53 +1,23 @@
--- One condition whole (document 01, "Writing one condition"): its digits, then their joining, then FLIP for relations 2, 4 and 6.
-use Prim.Native.Nat.{ℕ, zero, suc, _+_, _-_}
-use mathlib.Core.Bool.{Bool, true, false}
-use mathlib.Core.List.{List, [], _∷_, _++_}
-use lib.ListN.{length}
-use Rattle.field.specs.Logarithm.{clog}
-use Rattle.circuit.specs.Gate.{Flip}
-use Rattle.circuit.specs.ProductTree.{productTree}
-use Rattle.circuit.specs.Segment.{Node, Segment}
-use Rattle.comparison.specs.Digits.{Condition, digitStart, digitsFrom}
-use Rattle.comparison.specs.Joining.{LowestRun, halves, joinLowest}
-use Rattle.comparison.specs.OrderDigit.{lessGate, equalGate}
-use Rattle.comparison.specs.Relation.{isOrder, isFlipped}
+-- Conditions (document 01, "Card" and "Whole card"): what one says, and where it holds.
+use Prim.Native.Nat.{ℕ}
+use mathlib.Core.Bool.{Bool}
+use mathlib.Core.List.{List}
+use lib.ListN.{take, drop}
+use Rattle.digits.specs.Number.{number}
+use Rattle.comparison.specs.Relation.{Relation, isTrue}
 
--- "D = ceil(log2(p-1))": the depth of a digit's tests
-abbrev pub digitDepth : ℕ → ℕ
-digitDepth p = clog (p - 1)
+-- "relation, n", and the first of its n slots on each side
+pub record Condition : Type 0 where
+  pub relation : Relation
+  pub digits : ℕ
+  pub left : ℕ
+  pub right : ℕ
 
--- order joining of digits that are written from gate number k on, the joining from gate number next on
-abbrev pub orderJoining : ℕ → Condition → ℕ → ℕ → Segment
-orderJoining p c k next =
-    let run : LowestRun =
-    joinLowest (λ j. lessGate p (digitStart p c k j)) (λ j. equalGate p (digitStart p c k j)) (halves (c .digits) 0 (c .digits)) next in
-    record { gates = run .gates; output = record { gate = run .less; depth = digitDepth p + clog (c .digits) } }
+-- the number in n slots from the first on
+abbrev pub numberIn : ℕ → ℕ → ℕ → List ℕ → ℕ
+numberIn B first n side = number B (take n (drop first side))
 
--- the outputs of equality digits: n of them, from number j on; each is the last gate of its digit
-unfoldable pub equalityFactors : ℕ → Condition → ℕ → ℕ → ℕ → List Node
-equalityFactors p c k zero j = []
-equalityFactors p c k (suc n) j =
-    record { gate = digitStart p c k (suc j) - 1; depth = digitDepth p } ∷ equalityFactors p c k n (suc j)
-
--- "Equality joining: product tree over the digits."
-abbrev pub equalityJoining : ℕ → Condition → ℕ → ℕ → Segment
-equalityJoining p c k next = productTree next (equalityFactors p c k (c .digits) 0)
-
-abbrev pub joining : Bool → ℕ → Condition → ℕ → ℕ → Segment
-joining true p c k next = orderJoining p c k next
-joining false p c k next = equalityJoining p c k next
-
--- FLIP of the gates' output, or nothing
-abbrev pub ending : Bool → ℕ → Segment → Segment
-ending false k s = s
-ending true k s = record {
-  gates = s .gates ++ (Flip (s .output .gate) ∷ []);
-  output = record { gate = k + length (s .gates); depth = s .output .depth };
-}
-
--- a condition, from gate number k on
-unfoldable pub conditionGates : ℕ → Condition → ℕ → Segment
-conditionGates p c k =
-    let digits = digitsFrom p c k (c .digits) 0 in
-    let joined = joining (isOrder (c .relation)) p c k (k + length digits) in
-    ending (isFlipped (c .relation)) k (record { gates = digits ++ joined .gates; output = joined .output })
+-- "A condition holds where its relation is true of the number in its left slots and the number in its right slots."
+abbrev pub holds : ℕ → List ℕ → List ℕ → Condition → Bool
+holds B left right c =
+    isTrue (c .relation) (numberIn B (c .left) (c .digits) left) (numberIn B (c .right) (c .digits) right)

@@ -5,17 +5,11 @@ use mathlib.Core.List.{List, [], _++_}
 use Rattle.field.specs.Logarithm.{flog}
 use Rattle.circuit.specs.Gate.{Gate}
 use Rattle.comparison.specs.Bits.{ones}
+use Rattle.comparison.specs.Condition.{Condition}
 use Rattle.comparison.specs.Difference.{difference}
 use Rattle.comparison.specs.EqualityDigit.{zeroGates}
 use Rattle.comparison.specs.OrderDigit.{powerCount, lessGates, equalGates}
-use Rattle.comparison.specs.Relation.{Relation, isOrder}
-
--- a condition: "relation, n", and its first slot on each side
-pub record Condition : Type 0 where
-  pub relation : Relation
-  pub digits : ℕ
-  pub left : ℕ
-  pub right : ℕ
+use Rattle.comparison.specs.Relation.{isOrder}
 
 -- the tests of digit number j, over the difference whose first gate is number k
 abbrev pub tests : Bool → ℕ → ℕ → ℕ → List Gate

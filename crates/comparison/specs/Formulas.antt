@@ -4,10 +4,11 @@ use mathlib.Core.Bool.{Bool, true, false}
 use Rattle.field.specs.Bit.{bit}
 use Rattle.field.specs.Logarithm.{flog}
 use Rattle.comparison.specs.Bits.{ones}
-use Rattle.comparison.specs.Digits.{Condition}
+use Rattle.comparison.specs.Condition.{Condition}
 use Rattle.comparison.specs.Relation.{isOrder, isFlipped}
 
--- "per order condition n(p+4+(p-3)/2+floor((p-1)/4)) + 4(n-1) - flog(n)"; "per equality condition n(3+flog(t)+ones(t)) + n-1", where t = p-1
+-- "per order condition n(p+4+(p-3)/2+floor((p-1)/4)) + 4(n-1) - flog(n)";
+-- "per equality condition n(3+flog(t)+ones(t)) + n-1", where t = p-1
 abbrev pub gatesBeforeFlip : Bool → ℕ → ℕ → ℕ
 gatesBeforeFlip true p n = n * (p + 4 + (p - 3) / 2 + (p - 1) / 4) + 4 * (n - 1) - flog n
 gatesBeforeFlip false p n = n * (3 + flog (p - 1) + ones (p - 1)) + (n - 1)
@@ -20,7 +21,8 @@ conditionSize p c = gatesBeforeFlip (isOrder (c .relation)) p (c .digits) + bit 
 abbrev pub costSummand : ℕ → ℕ → ℕ → ℕ
 costSummand p s n = n * (50 * (p - 3) + s * ((p - 1) / 4 + 1)) + 100 * (2 * n - 2 - flog n)
 
--- the cost itself: that summand for order conditions; for equality conditions "flog(t) squares and ones(t)-1 products" a digit, and a product tree
+-- the cost itself: that summand for order conditions; for equality conditions "flog(t) squares and ones(t)-1 products" a digit,
+-- and a product tree
 abbrev pub costOf : Bool → ℕ → ℕ → ℕ → ℕ
 costOf true p s n = costSummand p s n
 costOf false p s n = n * (100 * (ones (p - 1) - 1) + s * flog (p - 1)) + 100 * (n - 1)

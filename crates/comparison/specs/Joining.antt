@@ -7,7 +7,8 @@ use lib.ListN.{length}
 use Rattle.circuit.specs.Gate.{Gate, Add, Mul}
 use Rattle.circuit.specs.Tree.{Tree, leaf, join}
 
--- "a run of m>=2 digits splits into the low floor(m/2) and the rest": the digits from number first on; the first argument bounds the splits
+-- "a run of m>=2 digits splits into the low floor(m/2) and the rest": the digits from number first on;
+-- the first argument bounds the splits
 unfoldable pub halves : ℕ → ℕ → ℕ → Tree ℕ
 halves zero first m = leaf first
 halves (suc most) first m =

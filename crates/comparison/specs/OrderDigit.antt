@@ -21,9 +21,13 @@ ascending (suc n) i = i ∷ ascending n (suc i)
 abbrev pub lowExponents : ℕ → List ℕ
 lowExponents p = ascending (half p - 1) 2
 
+-- the first odd number above i
+abbrev pub nextOdd : ℕ → ℕ
+nextOdd i = i + 1 + i % 2
+
 -- "then the odd i above that to p-2"
 abbrev pub oddExponents : ℕ → List ℕ
-oddExponents p = everySecond (half p / 2) (half p + 1 + half p % 2)
+oddExponents p = everySecond ((p - nextOdd (half p)) / 2) (nextOdd (half p))
 
 -- the gate of z^i for i up to (p-1)/2: they follow z
 abbrev pub lowPower : ℕ → ℕ → ℕ
@@ -37,11 +41,12 @@ powerOf z i = Mul (lowPower z (i / 2)) (lowPower z ((i + 1) / 2))
 abbrev pub powers : ℕ → ℕ → List Gate
 powers p z = map (powerOf z) (lowExponents p) ++ (map (powerOf z) (oddExponents p) ++ (powerOf z (p - 1) ∷ []))
 
--- how many gates they are
+-- how many gates they are: (p-1)/2 - 1 and 1, and the odd ones, half as many
 abbrev pub powerCount : ℕ → ℕ
 powerCount p = half p + half p / 2
 
--- the gate of z^i, i up to (p-1)/2 or odd or p-1
+-- the gate of z^i for every i that is written: after those up to (p-1)/2 come the odd ones, for which i/2 goes up by 1 each time,
+-- then p-1
 unfoldable pub powerGate : ℕ → ℕ → ℕ → ℕ
 powerGate p z i =
     elim (leb i (half p)) [ true ↦ lowPower z i | false ↦ z + half p + (i / 2 - (half p + 1) / 2) ]
@@ -67,7 +72,7 @@ termStart p k = suc (zGate k) + powerCount p
 abbrev pub lessGates : ℕ → ℕ → List Gate
 lessGates p k = powers p (zGate k) ++ terms p (zGate k) (termStart p k) (orderExponents p)
 
--- "The sum is L.": the last of p gates
+-- "The sum is L.": the last of the terms' p gates, of which (p+1)/2 are SCALEs
 abbrev pub lessGate : ℕ → ℕ → ℕ
 lessGate p k = termStart p k + (p - 1)
 
@@ -76,5 +81,6 @@ abbrev pub equalGates : ℕ → ℕ → ℕ → List Gate
 equalGates p zero k = []
 equalGates p (suc j) k = Flip (powerGate p (zGate k) (p - 1)) ∷ []
 
+-- the gate of E
 abbrev pub equalGate : ℕ → ℕ → ℕ
 equalGate p k = suc (lessGate p k)

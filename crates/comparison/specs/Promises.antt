@@ -15,33 +15,32 @@ use Rattle.circuit.specs.Gate.{Gate}
 use Rattle.circuit.specs.Meaning.{entryAt}
 use Rattle.circuit.specs.Table.{Head, leftSlots, rightSlots, allFit}
 use Rattle.circuit.specs.Value.{values}
-use Rattle.comparison.specs.Condition.{conditionGates}
-use Rattle.comparison.specs.Digits.{Condition}
+use Rattle.comparison.specs.Condition.{Condition, holds}
 use Rattle.comparison.specs.Formulas.{conditionSize, costSummand, conditionCost}
-use Rattle.comparison.specs.Holds.{holds}
+use Rattle.comparison.specs.Writing.{conditionSegment}
 
 -- "A condition's output is the last gate that it writes."
 abbrev pub OutputIsLast : Type 0
 OutputIsLast =
     (p k : ℕ) (c : Condition) → 3 ≤ p → p % 2 ≡ 1 → 1 ≤ c .digits
-    → suc (conditionGates p c k .output .gate) ≡ k + length (conditionGates p c k .gates)
+    → suc (conditionSegment p c k .output .gate) ≡ k + length (conditionSegment p c k .gates)
 
 -- its gates are as many as document 01 says
-abbrev pub ConditionGates : Type 0
-ConditionGates =
-    (p k : ℕ) (c : Condition) → 3 ≤ p → p % 2 ≡ 1 → 1 ≤ c .digits → length (conditionGates p c k .gates) ≡ conditionSize p c
+abbrev pub ConditionSized : Type 0
+ConditionSized =
+    (p k : ℕ) (c : Condition) → 3 ≤ p → p % 2 ≡ 1 → 1 ≤ c .digits → length (conditionSegment p c k .gates) ≡ conditionSize p c
 
 -- they keep the rules of gates
 abbrev pub ConditionFits : Type 0
 ConditionFits =
     (head : Head) (k : ℕ) (c : Condition) → 3 ≤ head .prime → head .prime % 2 ≡ 1 → 1 ≤ c .digits
     → c .left + c .digits ≤ leftSlots head → c .right + c .digits ≤ rightSlots head
-    → allFit head k (conditionGates (head .prime) c k .gates) ≡ true
+    → allFit head k (conditionSegment (head .prime) c k .gates) ≡ true
 
 -- what they cost
 abbrev pub ConditionCosts : Type 0
 ConditionCosts =
-    (p s k : ℕ) (c : Condition) → 3 ≤ p → p % 2 ≡ 1 → 1 ≤ c .digits → cost s (conditionGates p c k .gates) ≡ conditionCost p s c
+    (p s k : ℕ) (c : Condition) → 3 ≤ p → p % 2 ≡ 1 → 1 ≤ c .digits → cost s (conditionSegment p c k .gates) ≡ conditionCost p s c
 
 -- and that is at most the summand of demand 3
 abbrev pub CostWithin : Type 0
@@ -51,14 +50,15 @@ CostWithin = (p s : ℕ) (c : Condition) → 3 ≤ p → p % 2 ≡ 1 → 1 ≤ c
 abbrev pub ConditionHolds : Type 0
 ConditionHolds =
     (p : ℕ) (left right : List ℕ) (gates : List Gate) (c : Condition) → Prime p → 3 ≤ p → p % 2 ≡ 1 → 1 ≤ c .digits
-    → c .left + c .digits ≤ length left → c .right + c .digits ≤ length right → allBelow (base p) left ≡ true → allBelow (base p) right ≡ true
-    → let written = conditionGates p c (length gates) in
+    → c .left + c .digits ≤ length left → c .right + c .digits ≤ length right → allBelow (base p) left ≡ true
+    → allBelow (base p) right ≡ true
+    → let written = conditionSegment p c (length gates) in
     entryAt (values p left right) (gates ++ written .gates) (written .output .gate) ≡ bit (holds (base p) left right c)
 
 -- the output's depth is ceil(log2(p-1)) + ceil(log2 n), and its node tells it
 abbrev pub ConditionDepth : Type 0
 ConditionDepth =
     (p : ℕ) (gates : List Gate) (c : Condition) → 3 ≤ p → p % 2 ≡ 1 → 1 ≤ c .digits
-    → let written = conditionGates p c (length gates) in
+    → let written = conditionSegment p c (length gates) in
     (entryAt depths (gates ++ written .gates) (written .output .gate) ≡ written .output .depth)
     × (written .output .depth ≡ clog (p - 1) + clog (c .digits))

@@ -2,6 +2,7 @@
 pub mod Tests
 pub mod Primes
 pub mod Modular
+pub mod Bit
 pub mod Sum
 pub mod Logarithm
 pub mod Euclid

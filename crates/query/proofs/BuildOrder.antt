@@ -6,15 +6,15 @@ use Rattle.field.specs.Primes.{member, primes, listed}
 use Rattle.field.specs.Sum.{total}
 use Rattle.circuit.specs.ProductTree.{multiply}
 use Rattle.comparison.specs.Bits.{ones}
-use Rattle.comparison.specs.Condition.{equalityFactors, conditionGates}
 use Rattle.comparison.specs.Digits.{digitsFrom}
 use Rattle.comparison.specs.EqualityDigit.{chain}
 use Rattle.comparison.specs.Joining.{halves, joinLowest}
 use Rattle.comparison.specs.OrderDigit.{ascending, laterTerms}
+use Rattle.comparison.specs.Writing.{equalityFactors, conditionSegment}
 use Rattle.query.specs.Card.{readConditions}
 use Rattle.query.specs.BuildOrder.{BuildOrder}
 use Rattle.query.specs.Whole.{addAll}
 
 pub build-order : BuildOrder
-unfolding listed member primes readConditions total addAll conditionGates digitsFrom ascending orderExponents laterTerms chain ones halves joinLowest equalityFactors multiply
+unfolding listed member primes readConditions total addAll conditionSegment digitsFrom ascending orderExponents laterTerms chain ones halves joinLowest equalityFactors multiply
 build-order = refl

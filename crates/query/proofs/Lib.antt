@@ -1,7 +1,8 @@
 -- Laws that other crates cite.
 pub mod BuildOrder
 pub mod Reading
-pub mod Accepted
+pub mod Refusing
+pub mod CardFacts
 pub mod OverConditions
 pub mod Whole
 pub mod Promises

@@ -13,18 +13,20 @@ use Rattle.field.specs.Logarithm.{flog}
 use Rattle.field.specs.Sum.{total}
 use Rattle.circuit.specs.Every.{Every}
 use Rattle.comparison.specs.Bits.{ones}
-use Rattle.comparison.specs.Digits.{Condition}
+use Rattle.comparison.specs.Condition.{Condition}
 use Rattle.comparison.specs.Formulas.{gatesBeforeFlip, conditionSize}
 use Rattle.comparison.specs.Relation.{isOrder, isFlipped}
 use Rattle.comparison.proofs.Bits.{ones-below, flog-below}
 use Rattle.query.specs.Formulas.{overConditions}
 
-pub over-mono : (f g : Condition → ℕ) (cs : List Condition) → Every (λ (c : Condition). f c ≤ g c) cs → overConditions f cs ≤ overConditions g cs
+pub over-mono : (f g : Condition → ℕ) (cs : List Condition) → Every (λ (c : Condition). f c ≤ g c) cs
+    → overConditions f cs ≤ overConditions g cs
 unfolding total
 over-mono f g [] h = le-refl _
 over-mono f g (c ∷ cs) h = omega (arith, h .0, over-mono f g cs (h .1))
 
-pub over-times : (a : ℕ) (f : Condition → ℕ) (cs : List Condition) → overConditions (λ (c : Condition). a * f c) cs ≡ a * overConditions f cs
+pub over-times : (a : ℕ) (f : Condition → ℕ) (cs : List Condition)
+    → overConditions (λ (c : Condition). a * f c) cs ≡ a * overConditions f cs
 unfolding total
 over-times a f [] = omega arith
 over-times a f (c ∷ cs) = omega (arith, over-times a f cs)
@@ -38,15 +40,18 @@ over-some f (c ∷ cs) some = omega (arith, pow-pos (f c))
 pub size-within : (p : ℕ) (c : Condition) → 3 ≤ p → p % 2 ≡ 1 → p ≤ 251 → 1 ≤ c .digits → conditionSize p c ≤ 445 * c .digits
 size-within p c three odd high some = go (isOrder (c .relation)) (isFlipped (c .relation))
   where
-    bits-wide : 3 + flog (p - 1) + ones (p - 1) ≤ 441
-    bits-wide = omega (arith, flog-below (p - 1) (omega arith), ones-below (p - 1) (omega arith) (omega arith))
+    -- a digit's part, with its share of joining, tree and FLIP
+    wide : (x : ℕ) → x ≤ 441 → c .digits * x ≤ 441 * c .digits
+    wide x h = omega (arith, mul-le-mul-left (c .digits) h)
+
+    order-wide : p + 4 + (p - 3) / 2 + (p - 1) / 4 ≤ 441
+    order-wide = omega arith
+
+    equality-wide : 3 + flog (p - 1) + ones (p - 1) ≤ 441
+    equality-wide = omega (arith, flog-below (p - 1) (omega arith), ones-below (p - 1) (omega arith) (omega arith))
 
     go : (b f : Bool) → gatesBeforeFlip b p (c .digits) + bit f ≤ 445 * c .digits
-    go true true =
-        let wide : c .digits * (p + 4 + (p - 3) / 2 + (p - 1) / 4) ≤ c .digits * 441 = mul-le-mul-left (c .digits) (omega arith) in omega arith
-    go true false =
-        let wide : c .digits * (p + 4 + (p - 3) / 2 + (p - 1) / 4) ≤ c .digits * 441 = mul-le-mul-left (c .digits) (omega arith) in omega arith
-    go false true =
-        let wide : c .digits * (3 + flog (p - 1) + ones (p - 1)) ≤ c .digits * 441 = mul-le-mul-left (c .digits) bits-wide in omega arith
-    go false false =
-        let wide : c .digits * (3 + flog (p - 1) + ones (p - 1)) ≤ c .digits * 441 = mul-le-mul-left (c .digits) bits-wide in omega arith
+    go true true = omega (arith, wide _ order-wide)
+    go true false = omega (arith, wide _ order-wide)
+    go false true = omega (arith, wide _ equality-wide)
+    go false false = omega (arith, wide _ equality-wide)

@@ -1,5 +1,6 @@
 -- Demand 3: the promises of the table of every accepted card.
--- A card's draft is sound (`Whole`), and its product tree ends the table; so the table's last gate is the tree's output, and the laws of product trees give the rest.
+-- A card's draft is sound (`Whole`), and its product tree ends the table;
+-- so the table's last gate is the tree's output, and the laws of product trees give the rest.
 -- Assumes nothing.
 use mathlib.Core.Path.{_≡_, refl, sym, ap, _∙_}
 use mathlib.Core.Bool.{Bool, true}
@@ -13,6 +14,7 @@ use Rattle.answer.specs.Outcome.{accepted, Outcome}
 use Rattle.field.specs.Bit.{bit}
 use Rattle.field.specs.Logarithm.{clog}
 use Rattle.field.specs.Sum.{total}
+use Rattle.field.proofs.Bit.{bit-below}
 use Rattle.field.proofs.Logarithm.{clog-factor}
 use Rattle.field.proofs.Tests.{in-range-false}
 use Rattle.digits.specs.Number.{base, mostDigits, allBelow}
@@ -36,16 +38,16 @@ use Rattle.circuit.proofs.Kraft.{at-least}
 use Rattle.circuit.proofs.ProductTree.{tree-last, product-fits, product-count, product-value, product-depth}
 use Rattle.circuit.proofs.Promises.{checks-tables, trims-tables, runs-tables}
 use Rattle.circuit.proofs.WellFormed.{is-well-formed}
-use Rattle.comparison.specs.Digits.{Condition}
+use Rattle.comparison.specs.Condition.{Condition}
 use Rattle.comparison.specs.Formulas.{conditionSize, costSummand, conditionCost}
 use Rattle.comparison.proofs.Condition.{cost-within}
-use Rattle.comparison.proofs.EqualityCondition.{bit-below}
 use Rattle.query.specs.Card.{Card, slotsOf, readCard}
-use Rattle.query.specs.Formulas.{overConditions, gateCount, depthFormula, costFormula, allHold}
+use Rattle.query.specs.Formulas.{overConditions, gateCount, depthFormula, costFormula}
+use Rattle.query.specs.Holds.{allHold}
 use Rattle.query.specs.Outcomes.{tableRoom, building}
-use Rattle.query.specs.Promises.{gatesOf, RightAnswer, ExactDepth, outputGates, NoShallowerTree, BoundedCost, ExactCost, ExactSize, SameReport, TrimsToTable, RunsTheTable}
+use Rattle.query.specs.Promises.{gatesOf, RightAnswer, ExactDepth, outputGates, NoShallowerTree, BoundedCost, ExactCost, ExactSize, SameReport, TrimsToTable, RunsTheTable, RightRun}
 use Rattle.query.specs.Whole.{Draft, begin, filled, tableOf}
-use Rattle.query.proofs.Accepted.{Accepted, accepted-card}
+use Rattle.query.proofs.CardFacts.{Accepted, accepted-card}
 use Rattle.query.proofs.OverConditions.{over-mono, over-times, over-some, size-within}
 use Rattle.query.proofs.Whole.{Good, Sound, outputs-kept, all-sound, all-length, all-outputs, all-cost, all-breadth, all-value}
 
@@ -117,7 +119,8 @@ module _ (bytes : List ℕ) (card : Card) (e : readCard bytes ≡ accepted card)
   formula-depth =
       let sum = overConditions (λ (c : Condition). 2 ^ clog (c .digits)) (card .conditions) in
       let wide : breadth (draft .outputs) ≡ 2 ^ clog (p - 1) * sum = all-breadth head three odd begin (card .conditions) good ∙ zero-add _ in
-      depth-is ∙ ap clog wide ∙ clog-factor (clog (p - 1)) sum (over-some (λ (c : Condition). clog (c .digits)) (card .conditions) (known .count .0))
+      let some-sum = over-some (λ (c : Condition). clog (c .digits)) (card .conditions) (known .count .0) in
+      depth-is ∙ ap clog wide ∙ clog-factor (clog (p - 1)) sum some-sum
 
   -- each output's node tells the depth of its gate in the whole table
   output-depths : Every (λ (f : Node). 2 ^ entryAt depths gates (f .gate) ≡ 2 ^ f .depth) (draft .outputs)
@@ -145,17 +148,39 @@ module _ (bytes : List ℕ) (card : Card) (e : readCard bytes ≡ accepted card)
         outputs-length,
       )
 
+  costs-within : overConditions (conditionCost p (card .weight)) (card .conditions)
+      ≤ overConditions (λ (c : Condition). costSummand p (card .weight) (c .digits)) (card .conditions)
+  costs-within =
+      over-mono _ _ (card .conditions)
+      (every-map (λ (c : Condition) h. cost-within p (card .weight) c three odd (h .0)) (card .conditions) good)
+
   formula-size : length gates ≡ gateCount card
   formula-size =
       let count = product-count k (draft .outputs) some (sound .order) .0 in
-      omega (arith, length-append (draft .gates) (tree .gates), count, all-length head three odd begin (card .conditions) good, outputs-length)
+      omega (
+        arith,
+        length-append (draft .gates) (tree .gates),
+        count,
+        all-length head three odd begin (card .conditions) good,
+        outputs-length,
+      )
+
+  sizes-within : overConditions (conditionSize p) (card .conditions) ≤ overConditions (λ (c : Condition). 445 * c .digits) (card .conditions)
+  sizes-within =
+      over-mono _ _ (card .conditions)
+      (every-map (λ (c : Condition) h. size-within p c three odd (known .prime .high) (h .0)) (card .conditions) good)
 
   -- c - 1 gates, and 445 for each of at most 16 digits
   size-fits : length gates ≤ mostGates
   size-fits =
-      let sizes = over-mono (conditionSize p) (λ (c : Condition). 445 * c .digits) (card .conditions)
-      (every-map (λ (c : Condition) h. size-within p c three odd (known .prime .high) (h .0)) (card .conditions) (known .each)) in
-      omega (arith, formula-size, sizes, over-times 445 (λ (c : Condition). c .digits) (card .conditions), known .slots .1, known .count .1)
+      omega (
+        arith,
+        formula-size,
+        sizes-within,
+        over-times 445 (λ (c : Condition). c .digits) (card .conditions),
+        known .slots .1,
+        known .count .1,
+      )
 
   formed : wellFormed (tableOf card) ≡ true
   formed =
@@ -179,14 +204,16 @@ module _ (bytes : List ℕ) (card : Card) (e : readCard bytes ≡ accepted card)
     product-is : product (map (λ (f : Node). entryAt (values p left right) (draft .gates) (f .gate)) (draft .outputs)) ≡ bit answer
     unfolding product
     product-is =
-        all-value head three odd (known .prime .prime) left right (omega arith) (omega arith) hl hr begin (card .conditions) begin-sound good
+        all-value head three odd (known .prime .prime) left right (omega arith) (omega arith) hl hr
+        begin (card .conditions) begin-sound good
         ∙ omega arith
 
     below : output (values p left right) gates < p
     below =
         let low : base p ≤ p = omega (arith, three) in
         below-at p (entries (values p left right) gates) (length gates - 1) (omega (arith, three))
-        (values-below p left right gates (omega (arith, three)) (below-weaken (base p) p left low hl) (below-weaken (base p) p right low hr))
+        (values-below p left right gates (omega (arith, three))
+        (below-weaken (base p) p left low hl) (below-weaken (base p) p right low hr))
 
     right-value : output (values p left right) gates ≡ bit answer
     right-value =
@@ -200,13 +227,14 @@ module _ (bytes : List ℕ) (card : Card) (e : readCard bytes ≡ accepted card)
   -- ---- what Build leaves
 
   built : (lent : List ℕ) → tableRoom (tableOf card) ≤ length lent
-      → building bytes lent ≡ record { answer = accepted (report (tableOf card)); lent = tableBytes (tableOf card) ++ drop (tableRoom (tableOf card)) lent }
+      → building bytes lent
+      ≡ record { answer = accepted (report (tableOf card)); lent = tableBytes (tableOf card) ++ drop (tableRoom (tableOf card)) lent }
   built lent room = rw (e, le-ltb (length lent) (tableRoom (tableOf card)) room)
 
 -- ---- the promises
 
 pub right-answer : RightAnswer
-right-answer bytes left right card e l r hl hr = right-value bytes card e left right l r hl hr
+right-answer bytes left right card e l r = right-value bytes card e left right (l .0) (r .0) (l .1) (r .1)
 
 pub exact-depth : ExactDepth
 exact-depth bytes card e = formula-depth bytes card e
@@ -219,10 +247,7 @@ pub exact-cost : ExactCost
 exact-cost bytes card e = formula-cost bytes card e
 
 pub bounded-cost : BoundedCost
-bounded-cost bytes card e =
-    let each = every-map (λ (c : Condition) h. cost-within (card .prime) (card .weight) c (three bytes card e) (odd bytes card e) (h .0))
-    (card .conditions) (good bytes card e) in
-    omega (arith, exact-cost bytes card e, over-mono (conditionCost (card .prime) (card .weight)) (λ (c : Condition). costSummand (card .prime) (card .weight) (c .digits)) (card .conditions) each)
+bounded-cost bytes card e = omega (arith, formula-cost bytes card e, costs-within bytes card e)
 
 pub exact-size : ExactSize
 exact-size bytes card e = (formula-size bytes card e, size-fits bytes card e, formed bytes card e)
@@ -244,4 +269,14 @@ trims-to-table bytes lent card e room =
 pub runs-the-table : RunsTheTable
 runs-the-table bytes lent left right work card e room l r hl hr enough =
     let table = tableOf card in
-    rw (built bytes card e lent room, runs-tables table (drop (tableRoom table) lent) left right work (formed bytes card e), eq-eqb _ _ l, eq-eqb _ _ r, hl, hr, le-ltb _ _ enough)
+    let ran = runs-tables table (drop (tableRoom table) lent) left right work (formed bytes card e) in
+    rw (built bytes card e lent room, ran, eq-eqb _ _ l, eq-eqb _ _ r, hl, hr, le-ltb _ _ enough)
+
+pub right-run : RightRun
+right-run bytes lent left right work card e room l r enough =
+    let p = card .prime in
+    let low : base p ≤ p = omega (arith, three bytes card e) in
+    let hl = below-weaken (base p) p left low (l .1) in
+    let hr = below-weaken (base p) p right low (r .1) in
+    runs-the-table bytes lent left right work card e room (l .0) (r .0) hl hr enough
+    ∙ ap accepted (right-answer bytes left right card e l r)

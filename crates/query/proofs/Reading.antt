@@ -1,5 +1,6 @@
 -- Reading cards: the bytes of a card that keeps the rules read as that card, and whatever is read is such a card, byte for byte.
--- A record's four bytes and its condition determine each other; the conditions follow by induction on the records, the head by its rules one at a time.
+-- A record's four bytes and its condition determine each other;
+-- the conditions follow by induction on the records, the head by its rules one at a time.
 -- Assumes nothing.
 use mathlib.Core.Path.{_≡_, refl, sym, ap, ap₂, _∙_}
 use mathlib.Core.Bool.{true, false, not}
@@ -19,7 +20,7 @@ use Rattle.digits.specs.Number.{mostDigits, wrongCount}
 use Rattle.circuit.specs.Bytes.{byte, wrongMark}
 use Rattle.circuit.specs.Table.{wrongWeight}
 use Rattle.circuit.proofs.Reading.{mark-is}
-use Rattle.comparison.specs.Digits.{Condition}
+use Rattle.comparison.specs.Condition.{Condition}
 use Rattle.comparison.specs.Relation.{Relation, Less, AtMost, Greater, AtLeast, Equal, NotEqual, relationNumber, relations}
 use Rattle.query.specs.Card.{Card, cardMark, conditionMark, wrongConditionCount, slotsOf, readCondition, readConditions, readSlots, readCard, conditionBytes, conditionsBytes, cardBytes, inSlots, keepsRules}
 use Rattle.query.specs.CardPromises.{AcceptsCards, OnlyCards}

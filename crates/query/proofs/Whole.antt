@@ -13,7 +13,7 @@ use Rattle.field.specs.Bit.{bit}
 use Rattle.field.specs.Logarithm.{clog}
 use Rattle.field.specs.Primes.{Prime}
 use Rattle.field.specs.Sum.{total}
-use Rattle.field.proofs.Sum.{total-append}
+use Rattle.field.proofs.Bit.{bit-and}
 use Rattle.digits.specs.Number.{base, allBelow}
 use Rattle.circuit.specs.Count.{isProduct, isSquare, cost}
 use Rattle.circuit.specs.Depth.{depths}
@@ -30,13 +30,12 @@ use Rattle.circuit.proofs.Every.{every-map, every-map₂, every-append, map-sam
 use Rattle.circuit.proofs.Fitting.{fit-append}
 use Rattle.circuit.proofs.Meaning.{earlier-kept}
 use Rattle.circuit.proofs.ProductTree.{left-over}
-use Rattle.comparison.specs.Condition.{conditionGates}
-use Rattle.comparison.specs.Digits.{Condition}
+use Rattle.comparison.specs.Condition.{Condition, holds}
 use Rattle.comparison.specs.Formulas.{conditionSize, conditionCost}
-use Rattle.comparison.specs.Holds.{holds}
-use Rattle.comparison.proofs.Condition.{output-is-last, condition-gates, condition-some, condition-fits, condition-costs, condition-holds, condition-depth}
-use Rattle.comparison.proofs.EqualityCondition.{bit-and}
-use Rattle.query.specs.Formulas.{overConditions, allHold}
+use Rattle.comparison.specs.Writing.{conditionSegment}
+use Rattle.comparison.proofs.Condition.{output-is-last, condition-sized, condition-some, condition-fits, condition-costs, condition-holds, condition-depth}
+use Rattle.query.specs.Formulas.{overConditions}
+use Rattle.query.specs.Holds.{allHold}
 use Rattle.query.specs.Whole.{Draft, add, addAll}
 
 -- a product over one entry more
@@ -44,6 +43,12 @@ product-append : (xs : List ℕ) (x : ℕ) → product (xs ++ (x ∷ [])) ≡ pr
 unfolding product
 product-append [] x = omega arith
 product-append (y ∷ ys) x = omega (arith, ap (λ (t : ℕ). y * t) (product-append ys x))
+
+-- the breadth of one factor more
+breadth-append : (factors : List Node) (f : Node) → breadth (factors ++ (f ∷ [])) ≡ breadth factors + 2 ^ f .depth
+unfolding total
+breadth-append [] f = omega arith
+breadth-append (g ∷ gs) f = omega (arith, breadth-append gs f)
 
 -- digits and slots of a condition of a card
 abbrev pub Good : Head → Condition → Type 0
@@ -58,10 +63,10 @@ module _ (head : Head) (three : 3 ≤ head .prime) (odd : head .prime % 2 ≡ 1)
   -- what a draft keeps
   pub record Sound (draft : Draft) : Type 0 where
     pub fitted : allFit head 0 (draft .gates) ≡ true
+    -- each output's node tells the depth of its gate
+    pub nodes : Every (λ (f : Node). entryAt depths (draft .gates) (f .gate) ≡ f .depth) (draft .outputs)
     -- the outputs are gates of the draft, in order
     pub order : InOrder 0 (length (draft .gates)) (draft .outputs)
-    -- each with its depth
-    pub nodes : Every (λ (f : Node). entryAt depths (draft .gates) (f .gate) ≡ f .depth) (draft .outputs)
     -- a single one is the last gate
     pub single : length (draft .outputs) ≡ 1 → suc (firstOf (draft .outputs) .gate) ≡ length (draft .gates)
 
@@ -75,18 +80,18 @@ module _ (head : Head) (three : 3 ≤ head .prime) (odd : head .prime % 2 ≡ 1)
   add-sound : (draft : Draft) (c : Condition) → Sound draft → Good head c → Sound (add p draft c)
   add-sound draft c sound good =
       let k = length (draft .gates) in
-      let written = conditionGates p c k in
+      let written = conditionSegment p c k in
       let last = output-is-last p k c three odd (good .0) in
-      let size = condition-gates p k c three odd (good .0) in
+      let size = condition-sized p k c three odd (good .0) in
       let some = condition-some p c three (good .0) in
       let whole = length-append (draft .gates) (written .gates) in
       record {
         fitted = fit-append head 0 (draft .gates) (written .gates) (sound .fitted)
             (rw (zero-add k) (condition-fits head k c three odd (good .0) (good .1) (good .2)));
-        order = order-append 0 k _ (draft .outputs) (written .output) (sound .order) (omega arith) (omega arith);
         nodes = every-append _ (draft .outputs) (written .output ∷ [])
             (every-map₂ (λ (f : Node). _∙_) (draft .outputs) (outputs-kept depths draft (written .gates) sound) (sound .nodes))
             (condition-depth p (draft .gates) c three odd (good .0) .0, tt);
+        order = order-append 0 k _ (draft .outputs) (written .output) (sound .order) (omega arith) (omega arith);
         single = λ one. ap (λ (f : Node). suc (f .gate)) (left-over (draft .outputs) (written .output) one) ∙ omega arith;
       }
 
@@ -106,15 +111,15 @@ module _ (head : Head) (three : 3 ≤ head .prime) (odd : head .prime % 2 ≡ 1)
       omega (
         arith,
         all-length (add p draft c) cs (good .1),
-        length-append (draft .gates) (conditionGates p c k .gates),
-        condition-gates p k c three odd (good .0 .0),
+        length-append (draft .gates) (conditionSegment p c k .gates),
+        condition-sized p k c three odd (good .0 .0),
       )
 
   pub all-outputs : (draft : Draft) (cs : List Condition) → length (addAll p draft cs .outputs) ≡ length (draft .outputs) + length cs
   unfolding addAll
   all-outputs draft [] = omega arith
   all-outputs draft (c ∷ cs) =
-      let written = conditionGates p c (length (draft .gates)) in
+      let written = conditionSegment p c (length (draft .gates)) in
       omega (arith, all-outputs (add p draft c) cs, length-append (draft .outputs) (written .output ∷ []))
 
   pub all-cost : (s : ℕ) (draft : Draft) (cs : List Condition) → Every (Good head) cs
@@ -123,7 +128,7 @@ module _ (head : Head) (three : 3 ≤ head .prime) (odd : head .prime % 2 ≡ 1)
   all-cost s draft [] good = omega arith
   all-cost s draft (c ∷ cs) good =
       let k = length (draft .gates) in
-      let gates = conditionGates p c k .gates in
+      let gates = conditionSegment p c k .gates in
       omega (
         arith,
         all-cost s (add p draft c) cs (good .1),
@@ -138,14 +143,15 @@ module _ (head : Head) (three : 3 ≤ head .prime) (odd : head .prime % 2 ≡ 1)
   unfolding addAll total
   all-breadth draft [] good = omega arith
   all-breadth draft (c ∷ cs) good =
-      let written = conditionGates p c (length (draft .gates)) in
-      let one : List ℕ = 2 ^ written .output .depth ∷ [] in
+      let written = conditionSegment p c (length (draft .gates)) in
       let here = condition-depth p (draft .gates) c three odd (good .0 .0) .1 in
-      let power = ap (λ (d : ℕ). 2 ^ d) here ∙ pow-add 2 (clog (p - 1)) (clog (c .digits)) in
-      let appended =
-      ap total (map-append (λ (f : Node). 2 ^ f .depth) (draft .outputs) (written .output ∷ []))
-      ∙ total-append (map (λ (f : Node). 2 ^ f .depth) (draft .outputs)) one in
-      omega (arith, all-breadth (add p draft c) cs (good .1), appended, power)
+      omega (
+        arith,
+        all-breadth (add p draft c) cs (good .1),
+        breadth-append (draft .outputs) (written .output),
+        ap (λ (d : ℕ). 2 ^ d) here,
+        pow-add 2 (clog (p - 1)) (clog (c .digits)),
+      )
 
   -- ---- values
 
@@ -155,12 +161,15 @@ module _ (head : Head) (three : 3 ≤ head .prime) (odd : head .prime % 2 ≡ 1)
     abbrev pub valueOf : Draft → ℕ
     valueOf draft = product (map (λ (f : Node). entryAt (values p left right) (draft .gates) (f .gate)) (draft .outputs))
 
-    add-value : (draft : Draft) (c : Condition) → Sound draft → Good head c → valueOf (add p draft c) ≡ valueOf draft * bit (holds (base p) left right c)
+    add-value : (draft : Draft) (c : Condition) → Sound draft → Good head c
+        → valueOf (add p draft c) ≡ valueOf draft * bit (holds (base p) left right c)
     add-value draft c sound good =
         let alg = values p left right in
-        let written = conditionGates p c (length (draft .gates)) in
+        let written = conditionSegment p c (length (draft .gates)) in
         let new : Node → ℕ = λ f. entryAt alg (draft .gates ++ written .gates) (f .gate) in
-        let here = condition-holds p left right (draft .gates) c prime three odd (good .0) (omega (arith, good .1)) (omega (arith, good .2)) hl hr in
+        let inLeft : c .left + c .digits ≤ length left = omega (arith, good .1) in
+        let inRight : c .right + c .digits ≤ length right = omega (arith, good .2) in
+        let here = condition-holds p left right (draft .gates) c prime three odd (good .0) inLeft inRight hl hr in
         ap product (map-append new (draft .outputs) (written .output ∷ []))
         ∙ product-append (map new (draft .outputs)) (new (written .output))
         ∙ ap₂ _*_ (ap product (map-same _ _ (draft .outputs) (outputs-kept alg draft (written .gates) sound))) here

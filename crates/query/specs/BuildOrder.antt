@@ -1,4 +1,5 @@
--- The order of Build's refusals (document 01, "Operations and what they turn away"), on bytes that break every rule and are mended one rule at a time.
+-- The order of Build's refusals (document 01, "Operations and what they turn away"),
+-- on bytes that break every rule and are mended one rule at a time.
 -- Proved in `proofs/BuildOrder.antt`.
 use mathlib.Core.Path.{_≡_}
 use mathlib.Core.List.{List, [], _∷_, _++_, map}
@@ -33,7 +34,8 @@ brokenCards =
     ∷ twoConditions (0xC5 ∷ 0x51 ∷ 1 ∷ 1 ∷ 0xC5 ∷ 0x51 ∷ 5 ∷ 1 ∷ [])
     ∷ []
 
--- "1 card under 6 bytes; 2 head mark; 3 p not listed; 4 s; 5 spare not 0; 6 c; 7 length not 6+4c; then by condition 2 mark, 8 relation, 9 n;
+-- "1 card under 6 bytes; 2 head mark; 3 p not listed; 4 s; 5 spare not 0; 6 c; 7 length not 6+4c;
+-- then by condition 2 mark, 8 relation, 9 n;
 -- then 10 N over 16; last 11": each condition's rules before the next condition's; no table is lent
 abbrev pub BuildOrder : Type 0
 BuildOrder =

@@ -10,7 +10,7 @@ use Rattle.field.specs.Sum.{total}
 use Rattle.digits.specs.Number.{mostDigits, wrongCount}
 use Rattle.circuit.specs.Bytes.{byte, Mark, marked, wrongMark}
 use Rattle.circuit.specs.Table.{wrongWeight}
-use Rattle.comparison.specs.Digits.{Condition}
+use Rattle.comparison.specs.Condition.{Condition}
 use Rattle.comparison.specs.Relation.{relationNumber, relations}
 
 pub record Card : Type 0 where

@@ -1,16 +1,35 @@
--- What is proved of reading cards. Proved in `proofs/Reading.antt`.
+-- What is proved of what Build and Forecast take and turn away (demand 1). Proved in `proofs/Reading.antt` and `proofs/Refusing.antt`.
 use mathlib.Core.Path.{_≡_}
+use mathlib.Core.Logic.{_↔_}
 use mathlib.Core.Bool.{true}
 use mathlib.Core.List.{List}
-use Prim.Native.Nat.{ℕ}
-use Rattle.answer.specs.Outcome.{accepted}
+use Prim.Native.Nat.{ℕ, _<_}
+use lib.ListN.{length}
+use Rattle.answer.specs.Outcome.{refused, accepted}
 use Rattle.query.specs.Card.{Card, cardBytes, readCard, keepsRules}
+use Rattle.query.specs.Outcomes.{tableRoom, building, forecasting}
+use Rattle.query.specs.Whole.{tableOf}
 
--- "Accepted and finished: all others." (demand 1): the bytes of every card that breaks no rule are read as that card
+-- "Accepted and finished: all others.": the bytes of every card that breaks no rule are read as that card
 abbrev pub AcceptsCards : Type 0
 AcceptsCards = (card : Card) → keepsRules card ≡ true → readCard (cardBytes card) ≡ accepted card
 
--- and nothing else is accepted
+-- and no other bytes are accepted
 abbrev pub OnlyCards : Type 0
 OnlyCards =
     (bytes : List ℕ) (card : Card) → readCard bytes ≡ accepted card → (keepsRules card ≡ true) × (bytes ≡ cardBytes card)
+
+-- 11 exactly where an accepted card's table has no room
+abbrev pub RoomDecides : Type 0
+RoomDecides =
+    (bytes lent : List ℕ) (card : Card) → readCard bytes ≡ accepted card
+    → (building bytes lent .answer ≡ refused 11) ↔ (length lent < tableRoom (tableOf card))
+
+-- "A refusal answers its number and nothing else; every lent byte is then unaltered."
+abbrev pub RefusalKeeps : Type 0
+RefusalKeeps = (bytes lent : List ℕ) (number : ℕ) → building bytes lent .answer ≡ refused number → building bytes lent .lent ≡ lent
+
+-- Forecast: "the same answers from the card only, without 11"
+abbrev pub SameRefusal : Type 0
+SameRefusal =
+    (bytes lent : List ℕ) (number : ℕ) → forecasting bytes ≡ refused number → building bytes lent .answer ≡ refused number

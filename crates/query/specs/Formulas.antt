@@ -1,13 +1,11 @@
 -- The formulas of a card: gates (document 01, "Whole card"), depth and cost (demand 3).
 use Prim.Native.Nat.{ℕ, _+_, _-_, _*_, _^_}
-use mathlib.Core.Bool.{Bool, true, _&&_}
-use mathlib.Core.List.{List, [], _∷_, map}
+use mathlib.Core.List.{List, map}
 use lib.ListN.{length}
 use Rattle.field.specs.Logarithm.{clog}
 use Rattle.field.specs.Sum.{total}
-use Rattle.comparison.specs.Digits.{Condition}
+use Rattle.comparison.specs.Condition.{Condition}
 use Rattle.comparison.specs.Formulas.{conditionSize, costSummand, conditionCost}
-use Rattle.comparison.specs.Holds.{holds}
 use Rattle.query.specs.Card.{Card}
 
 -- the sum over the conditions
@@ -36,8 +34,3 @@ costBound card =
 abbrev pub costFormula : Card → ℕ
 costFormula card =
     100 * conditionsLessOne card + overConditions (conditionCost (card .prime) (card .weight)) (card .conditions)
-
--- "all conditions hold of the two sides' numbers"
-abbrev pub allHold : ℕ → List ℕ → List ℕ → List Condition → Bool
-allHold B left right [] = true
-allHold B left right (c ∷ cs) = holds B left right c && allHold B left right cs

@@ -13,7 +13,8 @@ use Rattle.query.specs.Whole.{tableOf}
 abbrev pub tableRoom : Table → ℕ
 tableRoom table = 8 * (length (table .gates) + 1)
 
--- "last 11, table lent under 8(G+1) bytes. Success answers G, products, squares, cost, depth; it fills exactly 8(G+1) bytes and no later one."
+-- "last 11, table lent under 8(G+1) bytes. Success answers G, products, squares, cost, depth;
+-- it fills exactly 8(G+1) bytes and no later one."
 abbrev pub writing : List ℕ → Table → Outcome Report
 writing lent table =
     refuse (ltb (length lent) (tableRoom table)) (unaltered lent 11)

@@ -1,5 +1,6 @@
 -- Demand 3: what is proved of the table of every accepted card, whatever its p, s, c, and the relation and digit count of each condition.
--- Document 01, "Whole card": "a card is accepted where none of Build's numbers but perhaps 11 turns it away", so where `readCard` accepts its bytes.
+-- Document 01, "Whole card": "a card is accepted where none of Build's numbers but perhaps 11 turns it away",
+-- so where `readCard` accepts its bytes.
 -- Proved in `proofs/Promises.antt`.
 use mathlib.Core.Path.{_≡_}
 use mathlib.Core.Bool.{true}
@@ -20,20 +21,23 @@ use Rattle.circuit.specs.Table.{tableBytes, wellFormed, mostGates}
 use Rattle.circuit.specs.Tree.{Tree, leaves, height}
 use Rattle.circuit.specs.Value.{values}
 use Rattle.query.specs.Card.{Card, slotsOf, readCard}
-use Rattle.query.specs.Formulas.{gateCount, depthFormula, costBound, costFormula, allHold}
+use Rattle.query.specs.Formulas.{gateCount, depthFormula, costBound, costFormula}
+use Rattle.query.specs.Holds.{allHold}
 use Rattle.query.specs.Outcomes.{tableRoom, building, forecasting}
 use Rattle.query.specs.Whole.{filled, tableOf}
 
 abbrev pub gatesOf : Card → List Gate
 gatesOf card = tableOf card .gates
 
+-- "A record is a left list and a query a right list, of the length that 18 asks.", here with digits below (p+1)/2
+abbrev pub Side : Card → List ℕ → Type 0
+Side card side = (length side ≡ slotsOf (card .conditions)) × (allBelow (base (card .prime)) side ≡ true)
+
 -- a. "For every record and query with digits below (p+1)/2, the last gate of the card's table is 1 exactly when all conditions hold
--- of the two sides' numbers, and 0 otherwise." "A record is a left list and a query a right list, of the length that 18 asks."
+-- of the two sides' numbers, and 0 otherwise."
 abbrev pub RightAnswer : Type 0
 RightAnswer =
-    (bytes left right : List ℕ) (card : Card) → readCard bytes ≡ accepted card
-    → length left ≡ slotsOf (card .conditions) → length right ≡ slotsOf (card .conditions)
-    → allBelow (base (card .prime)) left ≡ true → allBelow (base (card .prime)) right ≡ true
+    (bytes left right : List ℕ) (card : Card) → readCard bytes ≡ accepted card → Side card left → Side card right
     → output (values (card .prime) left right) (gatesOf card) ≡ bit (allHold (base (card .prime)) left right (card .conditions))
 
 -- b. "It is exactly ceil(log2(p-1)) + ceil(log2(the sum over the conditions of 2^ceil(log2 n)))."
@@ -91,3 +95,11 @@ RunsTheTable =
     → length left ≡ slotsOf (card .conditions) → length right ≡ slotsOf (card .conditions)
     → allBelow (card .prime) left ≡ true → allBelow (card .prime) right ≡ true → length (gatesOf card) ≤ length work
     → running (building bytes lent .lent) left right work .answer ≡ accepted (output (values (card .prime) left right) (gatesOf card))
+
+-- so from the card's bytes to the answer: Build, then Run on what it left
+abbrev pub RightRun : Type 0
+RightRun =
+    (bytes lent left right work : List ℕ) (card : Card) → readCard bytes ≡ accepted card → tableRoom (tableOf card) ≤ length lent
+    → Side card left → Side card right → length (gatesOf card) ≤ length work
+    → running (building bytes lent .lent) left right work .answer
+    ≡ accepted (bit (allHold (base (card .prime)) left right (card .conditions)))

@@ -7,8 +7,8 @@ use Rattle.circuit.specs.Gate.{Gate}
 use Rattle.circuit.specs.ProductTree.{productTree}
 use Rattle.circuit.specs.Segment.{Node}
 use Rattle.circuit.specs.Table.{Table}
-use Rattle.comparison.specs.Condition.{conditionGates}
-use Rattle.comparison.specs.Digits.{Condition}
+use Rattle.comparison.specs.Condition.{Condition}
+use Rattle.comparison.specs.Writing.{conditionSegment}
 use Rattle.query.specs.Card.{Card, slotsOf}
 
 -- the gates written so far, and the output of each condition
@@ -22,7 +22,7 @@ begin = record { gates = []; outputs = [] }
 -- one condition more, from the next free gate number on
 abbrev pub add : ℕ → Draft → Condition → Draft
 add p draft c =
-    let written = conditionGates p c (length (draft .gates)) in
+    let written = conditionSegment p c (length (draft .gates)) in
     record { gates = draft .gates ++ written .gates; outputs = draft .outputs ++ (written .output ∷ []) }
 
 unfoldable pub addAll : ℕ → Draft → List Condition → Draft

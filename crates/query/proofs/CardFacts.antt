@@ -1,4 +1,5 @@
--- What an accepted card keeps, as facts of numbers: its prime, its weight, how many conditions and slots it has, and the slots of each condition.
+-- What an accepted card keeps, as facts of numbers: its prime, its weight, how many conditions and slots it has,
+-- and the slots of each condition.
 -- The conditions' slots follow one another, so each ends where the later ones begin, and the last at N.
 -- Assumes nothing.
 use mathlib.Core.Path.{_≡_}
@@ -16,7 +17,7 @@ use Rattle.field.proofs.Tests.{in-range}
 use Rattle.digits.specs.Number.{mostDigits}
 use Rattle.circuit.specs.Every.{Every}
 use Rattle.circuit.specs.Table.{wrongWeight}
-use Rattle.comparison.specs.Digits.{Condition}
+use Rattle.comparison.specs.Condition.{Condition}
 use Rattle.query.specs.Card.{Card, slotsOf, readCard, inSlots}
 use Rattle.query.proofs.Reading.{Keeps, in-slots, reads}
 

@@ -1,0 +1,54 @@
+-- What Build and Forecast turn away: 11 exactly for want of room, lent bytes kept on every refusal,
+-- and the same refusals of a card by both.
+-- By the two cases of reading the card, and of the room.
+-- Assumes nothing.
+use mathlib.Core.Path.{_≡_, refl, sym}
+use mathlib.Core.Bool.{Bool, true, false}
+use mathlib.Core.List.{List}
+use Prim.Native.Nat.{ℕ, _<_}
+use native.Mathlib.Omega.{arith}
+use native.Mathlib.Decide.{decLt}
+use borrow.Author.Tests.{lt-ltb, le-ltb}
+use lib.Dec.{ltb}
+use lib.ListN.{length}
+use Rattle.answer.specs.Outcome.{Answer, refused, accepted}
+use Rattle.answer.proofs.Outcome.{refused≢accepted}
+use Rattle.query.specs.Card.{Card, readCard}
+use Rattle.query.specs.CardPromises.{RoomDecides, RefusalKeeps, SameRefusal}
+use Rattle.query.specs.Outcomes.{tableRoom, writing, building}
+use Rattle.query.specs.Whole.{tableOf}
+
+pub room-decides : RoomDecides
+room-decides bytes lent card e = (
+  there (decLt (length lent) (tableRoom (tableOf card))),
+  λ l. rw (e, lt-ltb (length lent) (tableRoom (tableOf card)) l),
+)
+  where
+    there : Dec (length lent < tableRoom (tableOf card)) → building bytes lent .answer ≡ refused 11
+        → length lent < tableRoom (tableOf card)
+    there (yes l) h = l
+    there (no n) h =
+        absurd (refused≢accepted (sym (rw (e, le-ltb (length lent) (tableRoom (tableOf card)) (omega arith)) at h)))
+
+-- of a card that was read, and of its table
+writing-keeps : (lent : List ℕ) (card : Card) (number : ℕ) → writing lent (tableOf card) .answer ≡ refused number
+    → writing lent (tableOf card) .lent ≡ lent
+writing-keeps lent card number h = go (ltb (length lent) (tableRoom (tableOf card))) refl
+  where
+    go : (t : Bool) → ltb (length lent) (tableRoom (tableOf card)) ≡ t → writing lent (tableOf card) .lent ≡ lent
+    go true e = rw e
+    go false e = absurd (refused≢accepted (sym (rw e at h)))
+
+pub refusal-keeps : RefusalKeeps
+refusal-keeps bytes lent number h = go (readCard bytes) refl
+  where
+    go : (r : Answer Card) → readCard bytes ≡ r → building bytes lent .lent ≡ lent
+    go (refused k) e = rw e
+    go (accepted card) e = rw e (writing-keeps lent card number (rw e at h))
+
+pub same-refusal : SameRefusal
+same-refusal bytes lent number h = go (readCard bytes) refl
+  where
+    go : (r : Answer Card) → readCard bytes ≡ r → building bytes lent .answer ≡ refused number
+    go (refused k) e = rw e (let same : refused k ≡ refused number = rw e at h in cc)
+    go (accepted card) e = absurd (refused≢accepted (sym (rw e at h)))
