@@ -5,7 +5,7 @@ use mathlib.Core.Bool.{Bool, true, false}
 use mathlib.Core.List.{List, [], _∷_, _++_}
 use Prim.Native.Nat.{ℕ, suc, _+_, _-_, _*_, _/_, _%_, _≤_}
 use native.Mathlib.Omega.{arith}
-use native.Mathlib.Nat.{mul-le-mul-left}
+use native.Mathlib.Nat.{le-of-eq, mul-le-mul-left}
 use lib.ListN.{length, length-append}
 use Rattle.field.specs.Bit.{bit}
 use Rattle.field.specs.Logarithm.{clog, flog}
@@ -13,7 +13,7 @@ use Rattle.field.specs.Primes.{Prime}
 use Rattle.field.proofs.Bit.{flip-bit}
 use Rattle.field.proofs.Logarithm.{flog-less}
 use Rattle.digits.specs.Number.{base, allBelow}
-use Rattle.circuit.specs.Count.{count, isProduct, isSquare, cost}
+use Rattle.circuit.specs.Count.{count, isProduct, isSquare, products, squares}
 use Rattle.circuit.specs.Depth.{depths}
 use Rattle.circuit.specs.Gate.{Gate, Flip}
 use Rattle.circuit.specs.Meaning.{Algebra, entryAt}
@@ -26,9 +26,9 @@ use Rattle.circuit.proofs.Meaning.{Solves, solves-append, later-solved}
 use Rattle.comparison.specs.Bits.{ones}
 use Rattle.comparison.specs.Condition.{Condition, numberIn}
 use Rattle.comparison.specs.Digits.{digitsFrom}
-use Rattle.comparison.specs.Formulas.{gatesBeforeFlip, conditionSize, costOf, costSummand}
+use Rattle.comparison.specs.Formulas.{gatesBeforeFlip, conditionSize, productsOf, squaresOf, costSummand}
 use Rattle.comparison.specs.OrderDigit.{half}
-use Rattle.comparison.specs.Promises.{OutputIsLast, ConditionSized, ConditionFits, ConditionCosts, CostWithin, ConditionHolds, ConditionDepth}
+use Rattle.comparison.specs.Promises.{OutputIsLast, ConditionSized, ConditionFits, ConditionCounts, OrderCost, CostWithin, ConditionHolds, ConditionDepth}
 use Rattle.comparison.specs.Relation.{isOrder, isBackward, isFlipped}
 use Rattle.comparison.specs.Writing.{joining, ending, conditionSegment}
 use Rattle.comparison.proofs.Bits.{ones-below, flog-below}
@@ -112,23 +112,22 @@ module _ (p : ℕ) (three : 3 ≤ p) (odd : p % 2 ≡ 1) (c : Condition) (some :
       go true e = order-fits p three odd c e some k head prime l r
       go false e = equality-fits p three odd c e some k head prime l r
 
-  body-cost : (s : ℕ) → cost s (body .gates) ≡ costOf order p s (c .digits)
-  body-cost s = go order refl
+  body-counts : (products (body .gates) ≡ productsOf order p (c .digits)) × (squares (body .gates) ≡ squaresOf order p (c .digits))
+  body-counts = go order refl
     where
       n : ℕ
       n = c .digits
 
-      go : (b : Bool) → isOrder (c .relation) ≡ b → cost s (bodyOf b .gates) ≡ costOf b p s (c .digits)
+      go : (b : Bool) → isOrder (c .relation) ≡ b
+          → (products (bodyOf b .gates) ≡ productsOf b p (c .digits)) × (squares (bodyOf b .gates) ≡ squaresOf b p (c .digits))
       go true e =
           let counts = order-count p three odd c e some k in
-          let products : n * (50 * (p - 3)) ≡ 100 * (n * (half p - 1)) =
-          let h : 50 * (p - 3) ≡ 100 * (half p - 1) = omega arith in ap (λ (t : ℕ). n * t) h ∙ omega arith in
-          let squares : (p - 1) / 4 + 1 ≡ half p / 2 + 1 = omega arith in
-          let less = flog-less n some in
-          omega (arith, counts .0, ap (λ (t : ℕ). s * t) (counts .1), products, ap (λ (t : ℕ). n * (s * t)) squares)
-      go false e =
-          let counts = equality-count p three odd c e some k in
-          omega (arith, counts .0, ap (λ (t : ℕ). s * t) (counts .1))
+          let odds : (p - 3) / 2 ≡ half p - 1 = omega arith in
+          let evens : (p - 1) / 4 + 1 ≡ half p / 2 + 1 = omega arith in (
+            omega (arith, flog-less n some, counts .0, ap (λ (t : ℕ). n * t) odds),
+            omega (arith, counts .1, ap (λ (t : ℕ). n * t) evens),
+          )
+      go false e = equality-count p three odd c e some k
 
   body-node : body .output .depth ≡ clog (p - 1) + clog (c .digits)
   body-node = go order refl
@@ -187,25 +186,33 @@ condition-fits head k c three odd some l r =
     end-fits k (body p three odd c some k) (body-last p three odd c some k) head (isFlipped (c .relation))
     (body-fits p three odd c some k head refl l r)
 
-pub condition-costs : ConditionCosts
+pub condition-counts : ConditionCounts
 unfolding conditionSegment
-condition-costs p s k c three odd some =
-    let counts = end-count k (body p three odd c some k) (body-last p three odd c some k) (isFlipped (c .relation)) in
-    ap₂ (λ (a b : ℕ). 100 * a + s * b) (counts .0) (counts .1) ∙ body-cost p three odd c some k s
+condition-counts p k c three odd some =
+    let end = end-count k (body p three odd c some k) (body-last p three odd c some k) (isFlipped (c .relation)) in
+    let counts = body-counts p three odd c some k in
+    (end .0 ∙ counts .0, end .1 ∙ counts .1)
+
+summand-is : (p s n : ℕ) → p % 2 ≡ 1 → 100 * productsOf true p n + s * squaresOf true p n ≡ costSummand p s n
+summand-is p s n odd =
+    let half : 100 * ((p - 3) / 2) ≡ 50 * (p - 3) = omega arith in omega (arith, ap (λ (t : ℕ). n * t) half)
+
+pub order-cost : OrderCost
+order-cost p s c three odd some order = rw order (summand-is p s (c .digits) odd)
 
 -- an equality condition costs no more than an order condition
 pub cost-within : CostWithin
 cost-within p s c three odd some = go (isOrder (c .relation))
   where
-    go : (b : Bool) → costOf b p s (c .digits) ≤ costSummand p s (c .digits)
-    go true = omega arith
+    go : (b : Bool) → 100 * productsOf b p (c .digits) + s * squaresOf b p (c .digits) ≤ costSummand p s (c .digits)
+    go true = le-of-eq (summand-is p s (c .digits) odd)
     go false =
         let n = c .digits in
         let t = p - 1 in
         let few = ones-below t (omega arith) (omega arith) in
-        let products : n * (100 * (ones t - 1)) ≤ n * (50 * (p - 3)) = mul-le-mul-left n (omega (arith, few)) in
-        let squares : n * (s * flog t) ≤ n * (s * (t / 4 + 1)) = mul-le-mul-left n (mul-le-mul-left s (flog-below t (omega arith))) in
-        omega (arith, products, squares, flog-less n some)
+        let odds : n * (100 * (ones t - 1)) ≤ n * (50 * (p - 3)) = mul-le-mul-left n (omega (arith, few)) in
+        let evens : n * (s * flog t) ≤ n * (s * (t / 4 + 1)) = mul-le-mul-left n (mul-le-mul-left s (flog-below t (omega arith))) in
+        omega (arith, odds, evens, flog-less n some)
 
 pub condition-holds : ConditionHolds
 unfolding conditionSegment

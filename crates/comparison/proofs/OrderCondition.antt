@@ -97,9 +97,15 @@ module _ (p : ℕ) (three : 3 ≤ p) (odd : p % 2 ≡ 1) (c : Condition) (order 
   pub order-length : length gates ≡ gatesBeforeFlip true p (c .digits)
   order-length =
       let same : size ≡ suc (p + 4 + (p - 3) / 2 + (p - 1) / 4) = omega arith in
-      let product : size * c .digits ≡ c .digits * (p + 4 + (p - 3) / 2 + (p - 1) / 4) + c .digits =
-      ap (λ (t : ℕ). t * c .digits) same ∙ omega arith in
-      omega (arith, length-append digits (joined .gates), next-is, start-is (c .digits), earlier 0 (c .digits) some, run-length, product)
+      omega (
+        arith,
+        length-append digits (joined .gates),
+        next-is,
+        start-is (c .digits),
+        earlier 0 (c .digits) some,
+        run-length,
+        ap (λ (t : ℕ). t * c .digits) same,
+      )
 
   pub order-count : (count isProduct gates + flog (c .digits) ≡ c .digits * (half p - 1) + 2 * (c .digits - 1))
       × (count isSquare gates ≡ c .digits * (half p / 2 + 1))

@@ -1,4 +1,4 @@
--- The formulas of one condition: its gates (document 01, "Whole card") and its summand of the cost (demand 3).
+-- The formulas of one condition: its gates (document 01, "Whole card"), its products and squares, and its summand of the cost (demand 3).
 use Prim.Native.Nat.{ℕ, _+_, _-_, _*_, _/_}
 use mathlib.Core.Bool.{Bool, true, false}
 use Rattle.field.specs.Bit.{bit}
@@ -17,15 +17,26 @@ gatesBeforeFlip false p n = n * (3 + flog (p - 1) + ones (p - 1)) + (n - 1)
 abbrev pub conditionSize : ℕ → Condition → ℕ
 conditionSize p c = gatesBeforeFlip (isOrder (c .relation)) p (c .digits) + bit (isFlipped (c .relation))
 
--- "n(50(p-3) + s(floor((p-1)/4)+1)) + 100(2n-2-floor(log2 n))"
-abbrev pub costSummand : ℕ → ℕ → ℕ → ℕ
-costSummand p s n = n * (50 * (p - 3) + s * ((p - 1) / 4 + 1)) + 100 * (2 * n - 2 - flog n)
+-- how many products: (p-3)/2 a digit, and two for each split in joining, one where the run holds digit 0;
+-- or "ones(t)-1 products" a digit, and a product tree
+abbrev pub productsOf : Bool → ℕ → ℕ → ℕ
+productsOf true p n = n * ((p - 3) / 2) + (2 * n - 2 - flog n)
+productsOf false p n = n * (ones (p - 1) - 1) + (n - 1)
 
--- the cost itself: that summand for order conditions; for equality conditions "flog(t) squares and ones(t)-1 products" a digit,
--- and a product tree
-abbrev pub costOf : Bool → ℕ → ℕ → ℕ → ℕ
-costOf true p s n = costSummand p s n
-costOf false p s n = n * (100 * (ones (p - 1) - 1) + s * flog (p - 1)) + 100 * (n - 1)
+-- how many squares: floor((p-1)/4) + 1 a digit, or "flog(t) squares"
+abbrev pub squaresOf : Bool → ℕ → ℕ → ℕ
+squaresOf true p n = n * ((p - 1) / 4 + 1)
+squaresOf false p n = n * flog (p - 1)
+
+abbrev pub conditionProducts : ℕ → Condition → ℕ
+conditionProducts p c = productsOf (isOrder (c .relation)) p (c .digits)
+
+abbrev pub conditionSquares : ℕ → Condition → ℕ
+conditionSquares p c = squaresOf (isOrder (c .relation)) p (c .digits)
 
 abbrev pub conditionCost : ℕ → ℕ → Condition → ℕ
-conditionCost p s c = costOf (isOrder (c .relation)) p s (c .digits)
+conditionCost p s c = 100 * conditionProducts p c + s * conditionSquares p c
+
+-- the summand of demand 3: "n(50(p-3) + s(floor((p-1)/4)+1)) + 100(2n-2-floor(log2 n))"
+abbrev pub costSummand : ℕ → ℕ → ℕ → ℕ
+costSummand p s n = n * (50 * (p - 3) + s * ((p - 1) / 4 + 1)) + 100 * (2 * n - 2 - flog n)

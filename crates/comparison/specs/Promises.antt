@@ -9,14 +9,15 @@ use Rattle.field.specs.Bit.{bit}
 use Rattle.field.specs.Logarithm.{clog}
 use Rattle.field.specs.Primes.{Prime}
 use Rattle.digits.specs.Number.{base, allBelow}
-use Rattle.circuit.specs.Count.{cost}
+use Rattle.circuit.specs.Count.{products, squares}
 use Rattle.circuit.specs.Depth.{depths}
 use Rattle.circuit.specs.Gate.{Gate}
 use Rattle.circuit.specs.Meaning.{entryAt}
 use Rattle.circuit.specs.Table.{Head, leftSlots, rightSlots, allFit}
 use Rattle.circuit.specs.Value.{values}
 use Rattle.comparison.specs.Condition.{Condition, holds}
-use Rattle.comparison.specs.Formulas.{conditionSize, costSummand, conditionCost}
+use Rattle.comparison.specs.Formulas.{conditionSize, conditionProducts, conditionSquares, conditionCost, costSummand}
+use Rattle.comparison.specs.Relation.{isOrder}
 use Rattle.comparison.specs.Writing.{conditionSegment}
 
 -- "A condition's output is the last gate that it writes."
@@ -37,12 +38,19 @@ ConditionFits =
     → c .left + c .digits ≤ leftSlots head → c .right + c .digits ≤ rightSlots head
     → allFit head k (conditionSegment (head .prime) c k .gates) ≡ true
 
--- what they cost
-abbrev pub ConditionCosts : Type 0
-ConditionCosts =
-    (p s k : ℕ) (c : Condition) → 3 ≤ p → p % 2 ≡ 1 → 1 ≤ c .digits → cost s (conditionSegment p c k .gates) ≡ conditionCost p s c
+-- how many of them are products and squares
+abbrev pub ConditionCounts : Type 0
+ConditionCounts =
+    (p k : ℕ) (c : Condition) → 3 ≤ p → p % 2 ≡ 1 → 1 ≤ c .digits
+    → (products (conditionSegment p c k .gates) ≡ conditionProducts p c) × (squares (conditionSegment p c k .gates) ≡ conditionSquares p c)
 
--- and that is at most the summand of demand 3
+-- an order condition costs exactly the summand of demand 3
+abbrev pub OrderCost : Type 0
+OrderCost =
+    (p s : ℕ) (c : Condition) → 3 ≤ p → p % 2 ≡ 1 → 1 ≤ c .digits → isOrder (c .relation) ≡ true
+    → conditionCost p s c ≡ costSummand p s (c .digits)
+
+-- and every condition at most that
 abbrev pub CostWithin : Type 0
 CostWithin = (p s : ℕ) (c : Condition) → 3 ≤ p → p % 2 ≡ 1 → 1 ≤ c .digits → conditionCost p s c ≤ costSummand p s (c .digits)
 

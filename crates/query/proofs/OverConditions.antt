@@ -31,6 +31,13 @@ unfolding total
 over-times a f [] = omega arith
 over-times a f (c ∷ cs) = omega (arith, over-times a f cs)
 
+-- products and squares summed apart
+pub over-cost : (s : ℕ) (f g : Condition → ℕ) (cs : List Condition)
+    → overConditions (λ (c : Condition). 100 * f c + s * g c) cs ≡ 100 * overConditions f cs + s * overConditions g cs
+unfolding total
+over-cost s f g [] = omega arith
+over-cost s f g (c ∷ cs) = omega (arith, over-cost s f g cs)
+
 pub over-some : (f : Condition → ℕ) (cs : List Condition) → 1 ≤ length cs → 1 ≤ overConditions (λ (c : Condition). 2 ^ f c) cs
 unfolding total
 over-some f [] some = absurd (omega arith)

@@ -5,7 +5,7 @@
 use mathlib.Core.Path.{_≡_, refl, sym, ap, _∙_}
 use mathlib.Core.Bool.{Bool, true}
 use mathlib.Core.List.{List, _++_, map, map-map}
-use Prim.Native.Nat.{ℕ, suc, _-_, _*_, _%_, _^_, _≤_, _<_}
+use Prim.Native.Nat.{ℕ, suc, _+_, _-_, _*_, _%_, _^_, _≤_, _<_}
 use native.Mathlib.Omega.{arith}
 use native.Mathlib.Nat.{le-refl, zero-add, mod-eq-of-lt}
 use borrow.Author.Tests.{le-ltb, eq-eqb}
@@ -19,7 +19,7 @@ use Rattle.field.proofs.Logarithm.{clog-factor}
 use Rattle.field.proofs.Tests.{in-range-false}
 use Rattle.digits.specs.Number.{base, mostDigits, allBelow}
 use Rattle.digits.proofs.Number.{below-at, below-weaken}
-use Rattle.circuit.specs.Count.{count, isProduct, isSquare, cost}
+use Rattle.circuit.specs.Count.{count, isProduct, isSquare, products, squares, cost}
 use Rattle.circuit.specs.Depth.{depths, depth}
 use Rattle.circuit.specs.Every.{Every}
 use Rattle.circuit.specs.Factors.{InOrder, breadth, product}
@@ -39,17 +39,18 @@ use Rattle.circuit.proofs.ProductTree.{tree-last, product-fits, product-count, 
 use Rattle.circuit.proofs.Promises.{checks-tables, trims-tables, runs-tables}
 use Rattle.circuit.proofs.WellFormed.{is-well-formed}
 use Rattle.comparison.specs.Condition.{Condition}
-use Rattle.comparison.specs.Formulas.{conditionSize, costSummand, conditionCost}
-use Rattle.comparison.proofs.Condition.{cost-within}
+use Rattle.comparison.specs.Formulas.{conditionSize, conditionProducts, conditionSquares, conditionCost, costSummand}
+use Rattle.comparison.specs.Relation.{isOrder}
+use Rattle.comparison.proofs.Condition.{order-cost, cost-within}
 use Rattle.query.specs.Card.{Card, slotsOf, readCard}
-use Rattle.query.specs.Formulas.{overConditions, gateCount, depthFormula, costFormula}
+use Rattle.query.specs.Formulas.{overConditions, conditionsLessOne, gateCount, depthFormula, productCount, squareCount}
 use Rattle.query.specs.Holds.{allHold}
 use Rattle.query.specs.Outcomes.{tableRoom, building}
-use Rattle.query.specs.Promises.{gatesOf, RightAnswer, ExactDepth, outputGates, NoShallowerTree, BoundedCost, ExactCost, ExactSize, SameReport, TrimsToTable, RunsTheTable, RightRun}
+use Rattle.query.specs.Promises.{gatesOf, RightAnswer, ExactDepth, outputGates, NoShallowerTree, BoundedCost, ExactCost, ExactCounts, ExactSize, SameReport, TrimsToTable, RunsTheTable, RightRun}
 use Rattle.query.specs.Whole.{Draft, begin, filled, tableOf}
 use Rattle.query.proofs.CardFacts.{Accepted, accepted-card}
-use Rattle.query.proofs.OverConditions.{over-mono, over-times, over-some, size-within}
-use Rattle.query.proofs.Whole.{Good, Sound, outputs-kept, all-sound, all-length, all-outputs, all-cost, all-breadth, all-value}
+use Rattle.query.proofs.OverConditions.{over-mono, over-times, over-cost, over-some, size-within}
+use Rattle.query.proofs.Whole.{Good, Sound, outputs-kept, all-sound, all-length, all-outputs, all-counts, all-breadth, all-value}
 
 -- ---- the draft and the tree of an accepted card
 
@@ -133,26 +134,34 @@ module _ (bytes : List ℕ) (card : Card) (e : readCard bytes ≡ accepted card)
 
   -- ---- cost and size
 
-  formula-cost : cost (card .weight) gates ≡ costFormula card
+  formula-counts : (products gates ≡ productCount card) × (squares gates ≡ squareCount card)
   unfolding count
-  formula-cost =
-      let s = card .weight in
-      let tree-count = product-count k (draft .outputs) some (sound .order) in
-      omega (
-        arith,
-        count-append isProduct (draft .gates) (tree .gates),
-        ap (λ (t : ℕ). s * t) (count-append isSquare (draft .gates) (tree .gates)),
-        tree-count .1,
-        ap (λ (t : ℕ). s * t) (tree-count .2),
-        all-cost head three odd s begin (card .conditions) good,
-        outputs-length,
+  formula-counts =
+      let own = product-count k (draft .outputs) some (sound .order) in
+      let conditions = all-counts head three odd begin (card .conditions) good in (
+        omega (arith, count-append isProduct (draft .gates) (tree .gates), own .1, conditions .0, outputs-length),
+        omega (arith, count-append isSquare (draft .gates) (tree .gates), own .2, conditions .1),
       )
+
+  -- so the cost is 100(c-1) and that of each condition
+  cost-is : cost (card .weight) gates ≡ 100 * conditionsLessOne card + overConditions (conditionCost p (card .weight)) (card .conditions)
+  cost-is =
+      let s = card .weight in
+      let parts = over-cost s (conditionProducts p) (conditionSquares p) (card .conditions) in
+      omega (arith, ap (λ (t : ℕ). 100 * t) (formula-counts .0), ap (λ (t : ℕ). s * t) (formula-counts .1), parts)
 
   costs-within : overConditions (conditionCost p (card .weight)) (card .conditions)
       ≤ overConditions (λ (c : Condition). costSummand p (card .weight) (c .digits)) (card .conditions)
   costs-within =
       over-mono _ _ (card .conditions)
       (every-map (λ (c : Condition) h. cost-within p (card .weight) c three odd (h .0)) (card .conditions) good)
+
+  costs-exact : Every (λ (c : Condition). isOrder (c .relation) ≡ true) (card .conditions)
+      → overConditions (conditionCost p (card .weight)) (card .conditions)
+      ≡ overConditions (λ (c : Condition). costSummand p (card .weight) (c .digits)) (card .conditions)
+  costs-exact orders =
+      ap total (map-same _ _ (card .conditions)
+      (every-map₂ (λ (c : Condition) h order. order-cost p (card .weight) c three odd (h .0) order) (card .conditions) good orders))
 
   formula-size : length gates ≡ gateCount card
   formula-size =
@@ -243,11 +252,14 @@ pub no-shallower-tree : NoShallowerTree
 no-shallower-tree bytes card tree e same =
     rw (depth-is bytes card e, ← gates-breadth bytes card e) (at-least (entryAt depths (gatesOf card)) (outputGates card) tree same)
 
-pub exact-cost : ExactCost
-exact-cost bytes card e = formula-cost bytes card e
-
 pub bounded-cost : BoundedCost
-bounded-cost bytes card e = omega (arith, formula-cost bytes card e, costs-within bytes card e)
+bounded-cost bytes card e = omega (arith, cost-is bytes card e, costs-within bytes card e)
+
+pub exact-cost : ExactCost
+exact-cost bytes card e orders = omega (arith, cost-is bytes card e, costs-exact bytes card e orders)
+
+pub exact-counts : ExactCounts
+exact-counts bytes card e = formula-counts bytes card e
 
 pub exact-size : ExactSize
 exact-size bytes card e = (formula-size bytes card e, size-fits bytes card e, formed bytes card e)

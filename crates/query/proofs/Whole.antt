@@ -15,7 +15,7 @@ use Rattle.field.specs.Primes.{Prime}
 use Rattle.field.specs.Sum.{total}
 use Rattle.field.proofs.Bit.{bit-and}
 use Rattle.digits.specs.Number.{base, allBelow}
-use Rattle.circuit.specs.Count.{isProduct, isSquare, cost}
+use Rattle.circuit.specs.Count.{isProduct, isSquare, products, squares}
 use Rattle.circuit.specs.Depth.{depths}
 use Rattle.circuit.specs.Every.{Every}
 use Rattle.circuit.specs.Factors.{InOrder, breadth, product}
@@ -31,9 +31,9 @@ use Rattle.circuit.proofs.Fitting.{fit-append}
 use Rattle.circuit.proofs.Meaning.{earlier-kept}
 use Rattle.circuit.proofs.ProductTree.{left-over}
 use Rattle.comparison.specs.Condition.{Condition, holds}
-use Rattle.comparison.specs.Formulas.{conditionSize, conditionCost}
+use Rattle.comparison.specs.Formulas.{conditionSize, conditionProducts, conditionSquares}
 use Rattle.comparison.specs.Writing.{conditionSegment}
-use Rattle.comparison.proofs.Condition.{output-is-last, condition-sized, condition-some, condition-fits, condition-costs, condition-holds, condition-depth}
+use Rattle.comparison.proofs.Condition.{output-is-last, condition-sized, condition-some, condition-fits, condition-counts, condition-holds, condition-depth}
 use Rattle.query.specs.Formulas.{overConditions}
 use Rattle.query.specs.Holds.{allHold}
 use Rattle.query.specs.Whole.{Draft, add, addAll}
@@ -122,19 +122,18 @@ module _ (head : Head) (three : 3 ≤ head .prime) (odd : head .prime % 2 ≡ 1)
       let written = conditionSegment p c (length (draft .gates)) in
       omega (arith, all-outputs (add p draft c) cs, length-append (draft .outputs) (written .output ∷ []))
 
-  pub all-cost : (s : ℕ) (draft : Draft) (cs : List Condition) → Every (Good head) cs
-      → cost s (addAll p draft cs .gates) ≡ cost s (draft .gates) + overConditions (conditionCost p s) cs
+  pub all-counts : (draft : Draft) (cs : List Condition) → Every (Good head) cs
+      → (products (addAll p draft cs .gates) ≡ products (draft .gates) + overConditions (conditionProducts p) cs)
+      × (squares (addAll p draft cs .gates) ≡ squares (draft .gates) + overConditions (conditionSquares p) cs)
   unfolding addAll total
-  all-cost s draft [] good = omega arith
-  all-cost s draft (c ∷ cs) good =
+  all-counts draft [] good = (omega arith, omega arith)
+  all-counts draft (c ∷ cs) good =
       let k = length (draft .gates) in
       let gates = conditionSegment p c k .gates in
-      omega (
-        arith,
-        all-cost s (add p draft c) cs (good .1),
-        count-append isProduct (draft .gates) gates,
-        ap (λ (t : ℕ). s * t) (count-append isSquare (draft .gates) gates),
-        condition-costs p s k c three odd (good .0 .0),
+      let here = condition-counts p k c three odd (good .0 .0) in
+      let later = all-counts (add p draft c) cs (good .1) in (
+        omega (arith, later .0, count-append isProduct (draft .gates) gates, here .0),
+        omega (arith, later .1, count-append isSquare (draft .gates) gates, here .1),
       )
 
   pub all-breadth : (draft : Draft) (cs : List Condition) → Every (Good head) cs

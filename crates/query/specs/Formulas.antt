@@ -5,7 +5,7 @@ use lib.ListN.{length}
 use Rattle.field.specs.Logarithm.{clog}
 use Rattle.field.specs.Sum.{total}
 use Rattle.comparison.specs.Condition.{Condition}
-use Rattle.comparison.specs.Formulas.{conditionSize, costSummand, conditionCost}
+use Rattle.comparison.specs.Formulas.{conditionSize, conditionProducts, conditionSquares, costSummand}
 use Rattle.query.specs.Card.{Card}
 
 -- the sum over the conditions
@@ -24,13 +24,15 @@ gateCount card = overConditions (conditionSize (card .prime)) (card .conditions)
 abbrev pub depthFormula : Card → ℕ
 depthFormula card = clog (card .prime - 1) + clog (overConditions (λ (c : Condition). 2 ^ clog (c .digits)) (card .conditions))
 
+-- products: those of the conditions, and "plus c-1" of the product tree, which has no square
+abbrev pub productCount : Card → ℕ
+productCount card = overConditions (conditionProducts (card .prime)) (card .conditions) + conditionsLessOne card
+
+abbrev pub squareCount : Card → ℕ
+squareCount card = overConditions (conditionSquares (card .prime)) (card .conditions)
+
 -- "100(c-1) plus, for each condition, n(50(p-3) + s(floor((p-1)/4)+1)) + 100(2n-2-floor(log2 n))"
 abbrev pub costBound : Card → ℕ
 costBound card =
     100 * conditionsLessOne card
     + overConditions (λ (c : Condition). costSummand (card .prime) (card .weight) (c .digits)) (card .conditions)
-
--- the cost itself
-abbrev pub costFormula : Card → ℕ
-costFormula card =
-    100 * conditionsLessOne card + overConditions (conditionCost (card .prime) (card .weight)) (card .conditions)

@@ -10,8 +10,9 @@ use lib.ListN.{length}
 use Rattle.answer.specs.Outcome.{accepted}
 use Rattle.field.specs.Bit.{bit}
 use Rattle.digits.specs.Number.{base, allBelow}
-use Rattle.circuit.specs.Count.{cost}
+use Rattle.circuit.specs.Count.{products, squares, cost}
 use Rattle.circuit.specs.Depth.{depths, depth}
+use Rattle.circuit.specs.Every.{Every}
 use Rattle.circuit.specs.Gate.{Gate}
 use Rattle.circuit.specs.Meaning.{entryAt, output}
 use Rattle.circuit.specs.Outcomes.{checking, trimming, running}
@@ -20,8 +21,10 @@ use Rattle.circuit.specs.Segment.{Node}
 use Rattle.circuit.specs.Table.{tableBytes, wellFormed, mostGates}
 use Rattle.circuit.specs.Tree.{Tree, leaves, height}
 use Rattle.circuit.specs.Value.{values}
+use Rattle.comparison.specs.Condition.{Condition}
+use Rattle.comparison.specs.Relation.{isOrder}
 use Rattle.query.specs.Card.{Card, slotsOf, readCard}
-use Rattle.query.specs.Formulas.{gateCount, depthFormula, costBound, costFormula}
+use Rattle.query.specs.Formulas.{gateCount, depthFormula, productCount, squareCount, costBound}
 use Rattle.query.specs.Holds.{allHold}
 use Rattle.query.specs.Outcomes.{tableRoom, building, forecasting}
 use Rattle.query.specs.Whole.{filled, tableOf}
@@ -61,10 +64,18 @@ abbrev pub BoundedCost : Type 0
 BoundedCost =
     (bytes : List ℕ) (card : Card) → readCard bytes ≡ accepted card → cost (card .weight) (gatesOf card) ≤ costBound card
 
--- and exactly a sum in which an order condition's part is demand 3's summand
+-- for order conditions it is exactly that
 abbrev pub ExactCost : Type 0
 ExactCost =
-    (bytes : List ℕ) (card : Card) → readCard bytes ≡ accepted card → cost (card .weight) (gatesOf card) ≡ costFormula card
+    (bytes : List ℕ) (card : Card) → readCard bytes ≡ accepted card
+    → Every (λ (c : Condition). isOrder (c .relation) ≡ true) (card .conditions)
+    → cost (card .weight) (gatesOf card) ≡ costBound card
+
+-- and whatever the conditions, products and squares are counted by formulas
+abbrev pub ExactCounts : Type 0
+ExactCounts =
+    (bytes : List ℕ) (card : Card) → readCard bytes ≡ accepted card
+    → (products (gatesOf card) ≡ productCount card) × (squares (gatesOf card) ≡ squareCount card)
 
 -- e. the gates are as many as document 01's formula says, at most 8191, and the table keeps every rule
 abbrev pub ExactSize : Type 0
