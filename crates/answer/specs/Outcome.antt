@@ -27,6 +27,10 @@ abbrev pub onAnswer : {A R : Type 0} → Answer A → (ℕ → R) → (A → R) 
 onAnswer (refused number) refusal later = refusal number
 onAnswer (accepted a) refusal later = later a
 
+-- the refusal's number, or 0
+abbrev pub refusalIn : {A : Type 0} → Answer A → ℕ
+refusalIn answer = onAnswer answer (λ number. number) (λ a. 0)
+
 -- the entry at a place of a list, counting from 1, or the refusal of a place that it has not
 abbrev pub numbered : {A : Type 0} → ℕ → ℕ → List A → Answer A
 numbered refusal place [] = refused refusal

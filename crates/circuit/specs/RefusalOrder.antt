@@ -3,7 +3,7 @@
 use mathlib.Core.Path.{_≡_}
 use mathlib.Core.List.{List, [], _∷_, _++_, map}
 use Prim.Native.Nat.{ℕ}
-use Rattle.answer.specs.Outcome.{Answer, onAnswer}
+use Rattle.answer.specs.Outcome.{refusalIn}
 use Rattle.circuit.specs.Bench.{lessTable}
 use Rattle.circuit.specs.Outcomes.{checking, running}
 use Rattle.circuit.specs.Table.{tableBytes}
@@ -11,10 +11,6 @@ use Rattle.circuit.specs.Table.{tableBytes}
 -- the head of a table of one gate: p=3, s=75, one slot
 abbrev oneGate : List ℕ
 oneGate = 0x47 ∷ 0x48 ∷ 3 ∷ 75 ∷ 1 ∷ 0 ∷ 1 ∷ 0 ∷ []
-
--- the refusal's number, or 0
-abbrev number : {A : Type 0} → Answer A → ℕ
-number answer = onAnswer answer (λ k. k) (λ a. 0)
 
 -- bytes that break every rule, mended one rule at a time: each is refused by the first rule that is still broken
 abbrev pub brokenTables : List (List ℕ)
@@ -37,11 +33,11 @@ brokenTables =
 -- then by gate 2 mark, 5 spare, 16 kind, 17 an operand against its kind"
 abbrev pub CheckOrder : Type 0
 CheckOrder =
-    map (λ bytes. number (checking bytes)) brokenTables ≡ 12 ∷ 2 ∷ 3 ∷ 4 ∷ 13 ∷ 5 ∷ 14 ∷ 15 ∷ 2 ∷ 5 ∷ 16 ∷ 17 ∷ []
+    map (λ bytes. refusalIn (checking bytes)) brokenTables ≡ 12 ∷ 2 ∷ 3 ∷ 4 ∷ 13 ∷ 5 ∷ 14 ∷ 15 ∷ 2 ∷ 5 ∷ 16 ∷ 17 ∷ []
 
 -- "Check's, then 18 left or right list not N long, 19 a value of p or more, 20 work buffer under G"
 abbrev pub RunOrder : Type 0
 RunOrder =
-    let run : List ℕ → List ℕ → ℕ = λ left right. number (running (tableBytes lessTable) left right [] .answer) in
+    let run : List ℕ → List ℕ → ℕ = λ left right. refusalIn (running (tableBytes lessTable) left right [] .answer) in
     run (3 ∷ []) [] ∷ run [] (3 ∷ []) ∷ run (3 ∷ []) (0 ∷ []) ∷ run (0 ∷ []) (3 ∷ []) ∷ run (0 ∷ []) (0 ∷ []) ∷ []
     ≡ 18 ∷ 18 ∷ 19 ∷ 19 ∷ 20 ∷ []

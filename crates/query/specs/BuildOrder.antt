@@ -4,12 +4,8 @@
 use mathlib.Core.Path.{_≡_}
 use mathlib.Core.List.{List, [], _∷_, _++_, map}
 use Prim.Native.Nat.{ℕ}
-use Rattle.answer.specs.Outcome.{Answer, onAnswer}
+use Rattle.answer.specs.Outcome.{refusalIn}
 use Rattle.query.specs.Outcomes.{building}
-
--- the refusal's number, or 0
-abbrev number : {A : Type 0} → Answer A → ℕ
-number answer = onAnswer answer (λ k. k) (λ a. 0)
 
 -- a good head of a card of two conditions, p=3 and s=75
 abbrev twoConditions : List ℕ → List ℕ
@@ -39,5 +35,5 @@ brokenCards =
 -- then 10 N over 16; last 11": each condition's rules before the next condition's; no table is lent
 abbrev pub BuildOrder : Type 0
 BuildOrder =
-    map (λ bytes. number (building bytes [] .answer)) brokenCards
+    map (λ bytes. refusalIn (building bytes [] .answer)) brokenCards
     ≡ 1 ∷ 2 ∷ 3 ∷ 4 ∷ 5 ∷ 6 ∷ 7 ∷ 2 ∷ 8 ∷ 9 ∷ 2 ∷ 8 ∷ 9 ∷ 10 ∷ 11 ∷ []
