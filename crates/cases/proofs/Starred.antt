@@ -19,7 +19,7 @@ use Rattle.comparison.specs.EqualityDigit.{chain}
 use Rattle.comparison.specs.Joining.{halves, joinLowest}
 use Rattle.comparison.specs.OrderDigit.{ascending, powerGate, laterTerms}
 use Rattle.comparison.specs.Writing.{equalityFactors, conditionSegment}
-use Rattle.query.specs.Card.{readConditions}
+use Rattle.query.specs.Reading.{readConditions}
 use Rattle.query.specs.Whole.{addAll}
 use Rattle.cases.specs.Starred.{Case, starred}
 

@@ -8,8 +8,9 @@ use Rattle.digits.specs.Encoding.{encoding}
 use Rattle.digits.specs.Decoding.{decoding}
 use Rattle.circuit.specs.Outcomes.{running}
 use Rattle.circuit.specs.Report.{Report}
-use Rattle.query.specs.Card.{Card, readCard}
+use Rattle.query.specs.Card.{Card}
 use Rattle.query.specs.Outcomes.{building, forecasting}
+use Rattle.query.specs.Reading.{readCard}
 
 -- a refusal's number, or the numbers answered
 abbrev Told : Type 0

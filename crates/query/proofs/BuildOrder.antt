@@ -11,8 +11,8 @@ use Rattle.comparison.specs.EqualityDigit.{chain}
 use Rattle.comparison.specs.Joining.{halves, joinLowest}
 use Rattle.comparison.specs.OrderDigit.{ascending, laterTerms}
 use Rattle.comparison.specs.Writing.{equalityFactors, conditionSegment}
-use Rattle.query.specs.Card.{readConditions}
 use Rattle.query.specs.BuildOrder.{BuildOrder}
+use Rattle.query.specs.Reading.{readConditions}
 use Rattle.query.specs.Whole.{addAll}
 
 pub build-order : BuildOrder

@@ -18,20 +18,21 @@ use Rattle.digits.specs.Number.{mostDigits}
 use Rattle.circuit.specs.Every.{Every}
 use Rattle.circuit.specs.Table.{wrongWeight}
 use Rattle.comparison.specs.Condition.{Condition}
-use Rattle.query.specs.Card.{Card, slotsOf, readCard, inSlots}
+use Rattle.query.specs.Card.{Card, mostConditions, slotsOf, inSlots}
+use Rattle.query.specs.Reading.{readCard}
 use Rattle.query.proofs.Reading.{Keeps, in-slots, reads}
 
 -- a condition has 1 to 16 digits, and its slots are among the first N on both sides
 abbrev pub InCard : ℕ → Condition → Type 0
-InCard N c = (1 ≤ c .digits) × (c .digits ≤ 16) × (c .left + c .digits ≤ N) × (c .right + c .digits ≤ N)
+InCard N c = (1 ≤ c .digits) × (c .digits ≤ mostDigits) × (c .left + c .digits ≤ N) × (c .right + c .digits ≤ N)
 
 pub record Accepted (card : Card) : Type 0 where
   pub prime : OddPrime (card .prime)
   pub listed : listed (card .prime) ≡ true
   pub weight : (50 ≤ card .weight) × (card .weight ≤ 100)
   pub weightTest : wrongWeight (card .weight) ≡ false
-  pub count : (1 ≤ length (card .conditions)) × (length (card .conditions) ≤ 8)
-  pub slots : (1 ≤ slotsOf (card .conditions)) × (slotsOf (card .conditions) ≤ 16)
+  pub count : (1 ≤ length (card .conditions)) × (length (card .conditions) ≤ mostConditions)
+  pub slots : (1 ≤ slotsOf (card .conditions)) × (slotsOf (card .conditions) ≤ mostDigits)
   pub each : Every (λ (c : Condition). InCard (slotsOf (card .conditions)) c) (card .conditions)
 
 -- conditions that take the slots from slot on, up to N at most
@@ -51,7 +52,7 @@ some-slot slot (c ∷ cs) t h = let n = in-range (c .digits) 1 mostDigits (in-sl
 
 accepted-keeps : (card : Card) → Keeps card → Accepted card
 accepted-keeps card k =
-    let count = in-range (length (card .conditions)) 1 8 (k .count) in
+    let count = in-range (length (card .conditions)) 1 mostConditions (k .count) in
     record {
       prime = listed-iff (card .prime) .0 (k .prime);
       listed = k .prime;

@@ -42,11 +42,12 @@ use Rattle.comparison.specs.Condition.{Condition}
 use Rattle.comparison.specs.Formulas.{conditionSize, conditionProducts, conditionSquares, conditionCost, costSummand}
 use Rattle.comparison.specs.Relation.{isOrder}
 use Rattle.comparison.proofs.Condition.{order-cost, cost-within}
-use Rattle.query.specs.Card.{Card, slotsOf, readCard}
+use Rattle.query.specs.Card.{Card, slotsOf}
 use Rattle.query.specs.Formulas.{overConditions, conditionsLessOne, gateCount, depthFormula, productCount, squareCount}
 use Rattle.query.specs.Holds.{allHold}
 use Rattle.query.specs.Outcomes.{tableRoom, building}
 use Rattle.query.specs.Promises.{gatesOf, RightAnswer, ExactDepth, outputGates, NoShallowerTree, BoundedCost, ExactCost, ExactCounts, ExactSize, SameReport, TrimsToTable, RunsTheTable, RightRun}
+use Rattle.query.specs.Reading.{readCard}
 use Rattle.query.specs.Whole.{Draft, begin, filled, tableOf}
 use Rattle.query.proofs.CardFacts.{Accepted, accepted-card}
 use Rattle.query.proofs.OverConditions.{over-mono, over-times, over-cost, over-some, size-within}

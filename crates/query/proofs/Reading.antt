@@ -22,8 +22,9 @@ use Rattle.circuit.specs.Table.{wrongWeight}
 use Rattle.circuit.proofs.Reading.{mark-is}
 use Rattle.comparison.specs.Condition.{Condition}
 use Rattle.comparison.specs.Relation.{Relation, Less, AtMost, Greater, AtLeast, Equal, NotEqual, relationNumber, relations}
-use Rattle.query.specs.Card.{Card, cardMark, conditionMark, wrongConditionCount, slotsOf, readCondition, readConditions, readSlots, readCard, conditionBytes, conditionsBytes, cardBytes, inSlots, keepsRules}
+use Rattle.query.specs.Card.{Card, cardMark, conditionMark, wrongConditionCount, slotsOf, conditionBytes, conditionsBytes, cardBytes, inSlots, keepsRules}
 use Rattle.query.specs.CardPromises.{AcceptsCards, OnlyCards}
+use Rattle.query.specs.Reading.{readCondition, readConditions, readSlots, readCard}
 
 -- ---- the rules one by one
 

@@ -13,9 +13,10 @@ use lib.Dec.{ltb}
 use lib.ListN.{length}
 use Rattle.answer.specs.Outcome.{Answer, refused, accepted}
 use Rattle.answer.proofs.Outcome.{refused≢accepted}
-use Rattle.query.specs.Card.{Card, readCard}
+use Rattle.query.specs.Card.{Card}
 use Rattle.query.specs.CardPromises.{RoomDecides, RefusalKeeps, SameRefusal}
 use Rattle.query.specs.Outcomes.{tableRoom, writing, building}
+use Rattle.query.specs.Reading.{readCard}
 use Rattle.query.specs.Whole.{tableOf}
 
 pub room-decides : RoomDecides

@@ -6,8 +6,9 @@ use mathlib.Core.List.{List}
 use Prim.Native.Nat.{ℕ, _<_}
 use lib.ListN.{length}
 use Rattle.answer.specs.Outcome.{refused, accepted}
-use Rattle.query.specs.Card.{Card, cardBytes, readCard, keepsRules}
+use Rattle.query.specs.Card.{Card, cardBytes, keepsRules}
 use Rattle.query.specs.Outcomes.{tableRoom, building, forecasting}
+use Rattle.query.specs.Reading.{readCard}
 use Rattle.query.specs.Whole.{tableOf}
 
 -- "Accepted and finished: all others.": the bytes of every card that breaks no rule are read as that card

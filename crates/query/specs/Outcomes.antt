@@ -6,7 +6,7 @@ use lib.ListN.{length, drop}
 use Rattle.answer.specs.Outcome.{Answer, refused, accepted, Outcome, unaltered, refuse, onAnswer}
 use Rattle.circuit.specs.Report.{Report, report}
 use Rattle.circuit.specs.Table.{Table, tableBytes}
-use Rattle.query.specs.Card.{readCard}
+use Rattle.query.specs.Reading.{readCard}
 use Rattle.query.specs.Whole.{tableOf}
 
 -- the 8(G+1) bytes of a table

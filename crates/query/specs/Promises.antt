@@ -23,10 +23,11 @@ use Rattle.circuit.specs.Tree.{Tree, leaves, height}
 use Rattle.circuit.specs.Value.{values}
 use Rattle.comparison.specs.Condition.{Condition}
 use Rattle.comparison.specs.Relation.{isOrder}
-use Rattle.query.specs.Card.{Card, slotsOf, readCard}
+use Rattle.query.specs.Card.{Card, slotsOf}
 use Rattle.query.specs.Formulas.{gateCount, depthFormula, productCount, squareCount, costBound}
 use Rattle.query.specs.Holds.{allHold}
 use Rattle.query.specs.Outcomes.{tableRoom, building, forecasting}
+use Rattle.query.specs.Reading.{readCard}
 use Rattle.query.specs.Whole.{filled, tableOf}
 
 abbrev pub gatesOf : Card → List Gate
