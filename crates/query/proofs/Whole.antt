@@ -6,7 +6,7 @@ use mathlib.Core.Bool.{true}
 use mathlib.Core.List.{List, [], _∷_, _++_, map, map-append}
 use Prim.Native.Nat.{ℕ, suc, _+_, _-_, _*_, _%_, _^_, _≤_}
 use native.Mathlib.Omega.{arith}
-use native.Mathlib.Nat.{zero-add}
+use native.Mathlib.Nat.{zero-add, mul-comm}
 use lib.ListN.{length, length-append}
 use lib.Pow.{pow-add}
 use Rattle.field.specs.Bit.{bit}
@@ -30,6 +30,7 @@ use Rattle.circuit.proofs.Every.{every-map, every-map₂, every-append, map-sam
 use Rattle.circuit.proofs.Fitting.{fit-append}
 use Rattle.circuit.proofs.Meaning.{earlier-kept}
 use Rattle.circuit.proofs.ProductTree.{left-over}
+use Rattle.circuit.proofs.Rearranged.{last-first, same-breadth, same-product}
 use Rattle.comparison.specs.Condition.{Condition, holds}
 use Rattle.comparison.specs.Formulas.{conditionSize, conditionProducts, conditionSquares}
 use Rattle.comparison.specs.Writing.{conditionSegment}
@@ -37,18 +38,6 @@ use Rattle.comparison.proofs.Condition.{output-is-last, condition-sized, condit
 use Rattle.query.specs.Formulas.{overConditions}
 use Rattle.query.specs.Holds.{allHold}
 use Rattle.query.specs.Whole.{Draft, add, addAll}
-
--- a product over one entry more
-product-append : (xs : List ℕ) (x : ℕ) → product (xs ++ (x ∷ [])) ≡ product xs * x
-unfolding product
-product-append [] x = omega arith
-product-append (y ∷ ys) x = omega (arith, ap (λ (t : ℕ). y * t) (product-append ys x))
-
--- the breadth of one factor more
-breadth-append : (factors : List Node) (f : Node) → breadth (factors ++ (f ∷ [])) ≡ breadth factors + 2 ^ f .depth
-unfolding total
-breadth-append [] f = omega arith
-breadth-append (g ∷ gs) f = omega (arith, breadth-append gs f)
 
 -- digits and slots of a condition of a card
 abbrev pub Good : Head → Condition → Type 0
@@ -147,7 +136,7 @@ module _ (head : Head) (three : 3 ≤ head .prime) (odd : head .prime % 2 ≡ 1)
       omega (
         arith,
         all-breadth (add p draft c) cs (good .1),
-        breadth-append (draft .outputs) (written .output),
+        same-breadth (last-first (draft .outputs) (written .output)),
         ap (λ (d : ℕ). 2 ^ d) here,
         pow-add 2 (clog (p - 1)) (clog (c .digits)),
       )
@@ -162,6 +151,7 @@ module _ (head : Head) (three : 3 ≤ head .prime) (odd : head .prime % 2 ≡ 1)
 
     add-value : (draft : Draft) (c : Condition) → Sound draft → Good head c
         → valueOf (add p draft c) ≡ valueOf draft * bit (holds (base p) left right c)
+    unfolding product
     add-value draft c sound good =
         let alg = values p left right in
         let written = conditionSegment p c (length (draft .gates)) in
@@ -170,7 +160,8 @@ module _ (head : Head) (three : 3 ≤ head .prime) (odd : head .prime % 2 ≡ 1)
         let inRight : c .right + c .digits ≤ length right = omega (arith, good .2) in
         let here = condition-holds p left right (draft .gates) c prime three odd (good .0) inLeft inRight hl hr in
         ap product (map-append new (draft .outputs) (written .output ∷ []))
-        ∙ product-append (map new (draft .outputs)) (new (written .output))
+        ∙ same-product (last-first (map new (draft .outputs)) (new (written .output)))
+        ∙ mul-comm (new (written .output)) _
         ∙ ap₂ _*_ (ap product (map-same _ _ (draft .outputs) (outputs-kept alg draft (written .gates) sound))) here
 
     pub all-value : (draft : Draft) (cs : List Condition) → Sound draft → Every (Good head) cs
