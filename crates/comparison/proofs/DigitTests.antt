@@ -71,10 +71,10 @@ module _ (p : ℕ) (prime : Prime p) (three : 3 ≤ p) (odd : p % 2 ≡ 1) (left
       let b = isBackward (c .relation) in
       h .1 .1 .0 ∙ minus-value b ∙ ap₂ (λ (u v : ℕ). subMod p (minuend b u v) (subtrahend b u v)) (h .0) (h .1 .0)
 
-  pub digit-less : (j : ℕ) → Solves (values p left right) E k (digitGates p c j k) → isOrder (c .relation) ≡ true
+  pub less-is : (j : ℕ) → Solves (values p left right) E k (digitGates p c j k) → isOrder (c .relation) ≡ true
       → InBase p left right c j
       → E (lessGate p k) ≡ bit (ltb (firstDigit left right c j) (secondDigit left right c j))
-  digit-less j h e low =
+  less-is j h e low =
       let t : Solves (values p left right) E (suc (zGate k)) (tests true p j k) = rw e at (h .1 .1 .1) in
       less-value p three odd left right E k (order-parts p three odd (values p left right) E j k t .0)
       ∙ ap (λ (z : ℕ). orderPolynomial p z % p) (z-value j h) ∙ less-test p _ _ prime odd (low .0) (low .1)
@@ -83,18 +83,18 @@ module _ (p : ℕ) (prime : Prime p) (three : 3 ≤ p) (odd : p % 2 ≡ 1) (left
       → zeroTest p (E (zGate k)) ≡ bit (eqb (firstDigit left right c j) (secondDigit left right c j))
   zero-equal j h low = ap (zeroTest p) (z-value j h) ∙ equal-test p _ _ prime (omega (arith, low .0)) (omega (arith, low .1))
 
-  pub digit-zero : (j : ℕ) → Solves (values p left right) E k (digitGates p c j k) → isOrder (c .relation) ≡ false
+  pub zero-is : (j : ℕ) → Solves (values p left right) E k (digitGates p c j k) → isOrder (c .relation) ≡ false
       → InBase p left right c j
       → E (zGate k + length (zeroGates p k)) ≡ bit (eqb (firstDigit left right c j) (secondDigit left right c j))
-  digit-zero j h e low =
+  zero-is j h e low =
       let t : Solves (values p left right) E (suc (zGate k)) (tests false p j k) = rw e at (h .1 .1 .1) in
       zero-value p left right E k (omega arith) t ∙ zero-equal j h low
 
   -- every digit but the lowest has E
-  pub digit-equal : (j : ℕ) → Solves (values p left right) E k (digitGates p c (suc j) k) → isOrder (c .relation) ≡ true
+  pub equal-is : (j : ℕ) → Solves (values p left right) E k (digitGates p c (suc j) k) → isOrder (c .relation) ≡ true
       → InBase p left right c (suc j)
       → E (equalGate p k) ≡ bit (eqb (firstDigit left right c (suc j)) (secondDigit left right c (suc j)))
-  digit-equal j h e low =
+  equal-is j h e low =
       let t : Solves (values p left right) E (suc (zGate k)) (tests true p (suc j) k) = rw e at (h .1 .1 .1) in
       let s = order-parts p three odd (values p left right) E (suc j) k t in
       equal-value p three odd left right E k (s .0) j (s .1) ∙ zero-equal (suc j) h low

@@ -46,7 +46,7 @@ use Rattle.comparison.specs.OrderDigit.{ascending}
 use Rattle.comparison.specs.Relation.{isOrder}
 use Rattle.comparison.specs.Writing.{equalityFactors, equalityJoining}
 use Rattle.comparison.proofs.Digits.{digits-end, each-digit, digits-fit, digits-count}
-use Rattle.comparison.proofs.DigitTests.{firstDigit, secondDigit, InBase, digit-zero, zero-deep}
+use Rattle.comparison.proofs.DigitTests.{firstDigit, secondDigit, InBase, zero-is, zero-deep}
 use Rattle.comparison.proofs.EqualityDigit.{zero-length}
 
 -- numbers of a lowest digit and others are equal where these are
@@ -176,7 +176,7 @@ module _ (p : ℕ) (three : 3 ≤ p) (odd : p % 2 ≡ 1) (c : Condition) (equali
     factor-value : (j : ℕ) → j < c .digits → E (start (suc j) - 1) ≡ bit (eqb (x j) (y j))
     factor-value j l =
         ap E (sym (digit-output j))
-        ∙ digit-zero p prime three odd left right E c (start j) j (digit (values p left right) E h j l) equality (low j)
+        ∙ zero-is p prime three odd left right E c (start j) j (digit (values p left right) E h j l) equality (low j)
 
     abbrev sameFrom : ℕ → ℕ → Bool
     sameFrom n j = eqb (number (base p) (map x (ascending n j))) (number (base p) (map y (ascending n j)))

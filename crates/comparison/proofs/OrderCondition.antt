@@ -32,7 +32,7 @@ use Rattle.comparison.specs.OrderDigit.{half, ascending, powerCount, les
 use Rattle.comparison.specs.Relation.{isOrder}
 use Rattle.comparison.specs.Writing.{orderJoining}
 use Rattle.comparison.proofs.Digits.{digits-end, each-digit, digits-fit, digits-count}
-use Rattle.comparison.proofs.DigitTests.{firstDigit, secondDigit, InBase, digit-less, digit-equal, less-deep, equal-deep}
+use Rattle.comparison.proofs.DigitTests.{firstDigit, secondDigit, InBase, less-is, equal-is, less-deep, equal-deep}
 use Rattle.comparison.proofs.Halves.{halves-leaves, halves-height, halves-each, halves-upper}
 use Rattle.comparison.proofs.Joining.{lowest-fits, lowest-value, lowest-depth}
 use Rattle.comparison.proofs.JoiningCount.{joining-length, joining-count, joining-last}
@@ -149,7 +149,7 @@ module _ (p : ℕ) (three : 3 ≤ p) (odd : p % 2 ≡ 1) (c : Condition) (order 
       lowest-value p (omega arith) left right (base p) (firstDigit left right c) (secondDigit left right c) less equal E tree next
       (joining-solved alg E h)
       (halves-each _ (c .digits) some (λ j l. low j))
-      (halves-each _ (c .digits) some (λ j l. digit-less p prime three odd left right E c (start j) j (digit alg E h j l) order (low j)))
+      (halves-each _ (c .digits) some (λ j l. less-is p prime three odd left right E c (start j) j (digit alg E h j l) order (low j)))
       (halves-upper _ (c .digits) some (λ j. above j))
       ∙ rw (halves-leaves (c .digits) some)
     where
@@ -157,7 +157,7 @@ module _ (p : ℕ) (three : 3 ≤ p) (odd : p % 2 ≡ 1) (c : Condition) (order 
       above zero z l = absurd (omega arith)
       above (suc j) z l =
           let s = digit (values p left right) E h (suc j) l in
-          digit-equal p prime three odd left right E c (start (suc j)) j s order (low (suc j))
+          equal-is p prime three odd left right E c (start (suc j)) j s order (low (suc j))
 
   pub order-depth : (E : ℕ → ℕ) → Solves depths E k gates → E (joined .output .gate) ≡ clog (p - 1) + clog (c .digits)
   order-depth E h =

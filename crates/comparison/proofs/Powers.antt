@@ -23,7 +23,7 @@ use Rattle.circuit.proofs.Meaning.{Solves, solves-append}
 use Rattle.comparison.specs.OrderDigit.{half, lowExponents, nextOdd, oddExponents, lowPower, powerOf, powers, powerCount, powerGate}
 use Rattle.comparison.proofs.Mapped.{solves-map, length-ascending, ascending-at, length-second, second-at}
 
--- the exponents above (p-1)/2 that are written: odd ones up to p - 2, and p - 1
+-- the exponents that the terms ask for: odd ones up to p - 2, and p - 1
 abbrev pub Asked : ℕ → ℕ → Type 0
 Asked p i = ((i % 2 ≡ 1) × (i < p - 1)) ⊎ (i ≡ p - 1)
 

@@ -1,7 +1,7 @@
 -- Laws that other crates cite.
 pub mod BuildOrder
+pub mod Building
 pub mod Reading
-pub mod Refusing
 pub mod CardFacts
 pub mod OverConditions
 pub mod Whole

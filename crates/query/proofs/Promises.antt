@@ -4,8 +4,8 @@
 -- Assumes nothing.
 use mathlib.Core.Path.{_≡_, refl, sym, ap, _∙_}
 use mathlib.Core.Bool.{Bool, true}
-use mathlib.Core.List.{List, _++_, map, map-map}
-use Prim.Native.Nat.{ℕ, suc, _+_, _-_, _*_, _%_, _^_, _≤_, _<_}
+use mathlib.Core.List.{List, map, map-map}
+use Prim.Native.Nat.{ℕ, suc, _-_, _*_, _%_, _^_, _≤_, _<_}
 use native.Mathlib.Omega.{arith}
 use native.Mathlib.Nat.{le-refl, zero-add, mod-eq-of-lt}
 use borrow.Author.Tests.{le-ltb, eq-eqb}
@@ -26,9 +26,9 @@ use Rattle.circuit.specs.Factors.{InOrder, breadth, product}
 use Rattle.circuit.specs.Gate.{Gate}
 use Rattle.circuit.specs.Meaning.{entries, entryAt, output}
 use Rattle.circuit.specs.ProductTree.{productTree}
-use Rattle.circuit.specs.Report.{Report, report}
+use Rattle.circuit.specs.Report.{Report}
 use Rattle.circuit.specs.Segment.{Node, Segment}
-use Rattle.circuit.specs.Table.{Head, tableBytes, allFit, wellFormed, mostGates}
+use Rattle.circuit.specs.Table.{Head, allFit, wellFormed, mostGates}
 use Rattle.circuit.specs.Value.{values}
 use Rattle.circuit.proofs.Bounds.{values-below}
 use Rattle.circuit.proofs.Count.{count-append}
@@ -40,15 +40,15 @@ use Rattle.circuit.proofs.Promises.{checks-tables, trims-tables, runs-tables}
 use Rattle.circuit.proofs.WellFormed.{is-well-formed}
 use Rattle.comparison.specs.Condition.{Condition}
 use Rattle.comparison.specs.Formulas.{conditionSize, conditionProducts, conditionSquares, conditionCost, costSummand}
-use Rattle.comparison.specs.Relation.{isOrder}
 use Rattle.comparison.proofs.Condition.{order-cost, cost-within}
 use Rattle.query.specs.Card.{Card, slotsOf}
-use Rattle.query.specs.Formulas.{overConditions, conditionsLessOne, gateCount, depthFormula, productCount, squareCount}
+use Rattle.query.specs.Formulas.{overConditions, gateCount, depthFormula, productCount, squareCount, costSum}
 use Rattle.query.specs.Holds.{allHold}
-use Rattle.query.specs.Outcomes.{tableRoom, building}
-use Rattle.query.specs.Promises.{gatesOf, RightAnswer, ExactDepth, outputGates, NoShallowerTree, BoundedCost, ExactCost, ExactCounts, ExactSize, SameReport, TrimsToTable, RunsTheTable, RightRun}
+use Rattle.query.specs.Outcomes.{tableRoom}
+use Rattle.query.specs.Promises.{gatesOf, RightAnswer, ExactDepth, outputGates, NoShallowerTree, BoundedCost, ExactCost, ExactCounts, ExactSize, SameReport, ReportedNumbers, TrimsToTable, RunsTheTable, RightRun}
 use Rattle.query.specs.Reading.{readCard}
 use Rattle.query.specs.Whole.{Draft, begin, filled, tableOf}
+use Rattle.query.proofs.Building.{built}
 use Rattle.query.proofs.CardFacts.{Accepted, accepted-card}
 use Rattle.query.proofs.OverConditions.{over-mono, over-times, over-cost, over-some, size-within}
 use Rattle.query.proofs.Whole.{Good, Sound, outputs-kept, all-sound, all-length, all-outputs, all-counts, all-breadth, all-value}
@@ -145,7 +145,7 @@ module _ (bytes : List ℕ) (card : Card) (e : readCard bytes ≡ accepted card)
       )
 
   -- so the cost is 100(c-1) and that of each condition
-  cost-is : cost (card .weight) gates ≡ 100 * conditionsLessOne card + overConditions (conditionCost p (card .weight)) (card .conditions)
+  cost-is : cost (card .weight) gates ≡ costSum card
   cost-is =
       let s = card .weight in
       let parts = over-cost s (conditionProducts p) (conditionSquares p) (card .conditions) in
@@ -156,13 +156,6 @@ module _ (bytes : List ℕ) (card : Card) (e : readCard bytes ≡ accepted card)
   costs-within =
       over-mono _ _ (card .conditions)
       (every-map (λ (c : Condition) h. cost-within p (card .weight) c three odd (h .0)) (card .conditions) good)
-
-  costs-exact : Every (λ (c : Condition). isOrder (c .relation) ≡ true) (card .conditions)
-      → overConditions (conditionCost p (card .weight)) (card .conditions)
-      ≡ overConditions (λ (c : Condition). costSummand p (card .weight) (c .digits)) (card .conditions)
-  costs-exact orders =
-      ap total (map-same _ _ (card .conditions)
-      (every-map₂ (λ (c : Condition) h order. order-cost p (card .weight) c three odd (h .0) order) (card .conditions) good orders))
 
   formula-size : length gates ≡ gateCount card
   formula-size =
@@ -234,13 +227,6 @@ module _ (bytes : List ℕ) (card : Card) (e : readCard bytes ≡ accepted card)
         ∙ ap (λ (v : ℕ). v % p) product-is
         ∙ mod-eq-of-lt (bit-below p (omega (arith, three)) answer)
 
-  -- ---- what Build leaves
-
-  built : (lent : List ℕ) → tableRoom (tableOf card) ≤ length lent
-      → building bytes lent
-      ≡ record { answer = accepted (report (tableOf card)); lent = tableBytes (tableOf card) ++ drop (tableRoom (tableOf card)) lent }
-  built lent room = rw (e, le-ltb (length lent) (tableRoom (tableOf card)) room)
-
 -- ---- the promises
 
 pub right-answer : RightAnswer
@@ -257,7 +243,11 @@ pub bounded-cost : BoundedCost
 bounded-cost bytes card e = omega (arith, cost-is bytes card e, costs-within bytes card e)
 
 pub exact-cost : ExactCost
-exact-cost bytes card e orders = omega (arith, cost-is bytes card e, costs-exact bytes card e orders)
+exact-cost bytes card e = (
+  cost-is bytes card e,
+  every-map (λ (c : Condition) h. order-cost (card .prime) (card .weight) c (three bytes card e) (odd bytes card e) (h .0))
+      (card .conditions) (good bytes card e),
+)
 
 pub exact-counts : ExactCounts
 exact-counts bytes card e = formula-counts bytes card e
@@ -268,22 +258,29 @@ exact-size bytes card e = (formula-size bytes card e, size-fits bytes card e, fo
 pub same-report : SameReport
 same-report bytes lent later card e room =
     let table = tableOf card in
-    let b = built bytes card e lent room in (
+    let b = built bytes lent card e room in (
       ap (λ (o : Outcome Report). o .answer) b,
       rw e,
       checks-tables table later (formed bytes card e),
       rw b (checks-tables table (drop (tableRoom table) lent) (formed bytes card e)),
     )
 
+pub reported-numbers : ReportedNumbers
+reported-numbers bytes card e =
+    let size = formula-size bytes card e in
+    let counts = formula-counts bytes card e in
+    let paid = cost-is bytes card e in
+    let deep = formula-depth bytes card e in cc
+
 pub trims-to-table : TrimsToTable
 trims-to-table bytes lent card e room =
-    let table = tableOf card in rw (built bytes card e lent room) (trims-tables table (drop (tableRoom table) lent) (formed bytes card e))
+    let table = tableOf card in rw (built bytes lent card e room) (trims-tables table (drop (tableRoom table) lent) (formed bytes card e))
 
 pub runs-the-table : RunsTheTable
 runs-the-table bytes lent left right work card e room l r hl hr enough =
     let table = tableOf card in
     let ran = runs-tables table (drop (tableRoom table) lent) left right work (formed bytes card e) in
-    rw (built bytes card e lent room, ran, eq-eqb _ _ l, eq-eqb _ _ r, hl, hr, le-ltb _ _ enough)
+    rw (built bytes lent card e room, ran, eq-eqb _ _ l, eq-eqb _ _ r, hl, hr, le-ltb _ _ enough)
 
 pub right-run : RightRun
 right-run bytes lent left right work card e room l r enough =

@@ -1,11 +1,12 @@
--- What is proved of what Build and Forecast take and turn away (demand 1). Proved in `proofs/Reading.antt` and `proofs/Refusing.antt`.
+-- What is proved of what Build and Forecast take, leave and turn away (demand 1). Proved in `proofs/Reading.antt` and `proofs/Building.antt`.
 use mathlib.Core.Path.{_≡_}
 use mathlib.Core.Logic.{_↔_}
 use mathlib.Core.Bool.{true}
 use mathlib.Core.List.{List}
-use Prim.Native.Nat.{ℕ, _<_}
-use lib.ListN.{length}
+use Prim.Native.Nat.{ℕ, _≤_, _<_}
+use lib.ListN.{length, take, drop}
 use Rattle.answer.specs.Outcome.{refused, accepted}
+use Rattle.circuit.specs.Table.{tableBytes}
 use Rattle.query.specs.Card.{Card, cardBytes, keepsRules}
 use Rattle.query.specs.Outcomes.{tableRoom, building, forecasting}
 use Rattle.query.specs.Reading.{readCard}
@@ -25,6 +26,13 @@ abbrev pub RoomDecides : Type 0
 RoomDecides =
     (bytes lent : List ℕ) (card : Card) → readCard bytes ≡ accepted card
     → (building bytes lent .answer ≡ refused 11) ↔ (length lent < tableRoom (tableOf card))
+
+-- "it fills exactly 8(G+1) bytes and no later one": the first are the table's, the others as they were
+abbrev pub FillsExactly : Type 0
+FillsExactly =
+    (bytes lent : List ℕ) (card : Card) → readCard bytes ≡ accepted card → tableRoom (tableOf card) ≤ length lent
+    → (take (tableRoom (tableOf card)) (building bytes lent .lent) ≡ tableBytes (tableOf card))
+    × (drop (tableRoom (tableOf card)) (building bytes lent .lent) ≡ drop (tableRoom (tableOf card)) lent)
 
 -- "A refusal answers its number and nothing else; every lent byte is then unaltered."
 abbrev pub RefusalKeeps : Type 0

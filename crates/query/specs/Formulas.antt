@@ -1,11 +1,12 @@
--- The formulas of a card: gates (document 01, "Whole card"), depth and cost (demand 3).
+-- The formulas of a card: gates (document 01, "Whole card"), depth, products, squares and cost (demand 3).
 use Prim.Native.Nat.{ℕ, _+_, _-_, _*_, _^_}
 use mathlib.Core.List.{List, map}
 use lib.ListN.{length}
 use Rattle.field.specs.Logarithm.{clog}
 use Rattle.field.specs.Sum.{total}
+use Rattle.circuit.specs.Report.{Report}
 use Rattle.comparison.specs.Condition.{Condition}
-use Rattle.comparison.specs.Formulas.{conditionSize, conditionProducts, conditionSquares, costSummand}
+use Rattle.comparison.specs.Formulas.{conditionSize, conditionProducts, conditionSquares, conditionCost, costSummand}
 use Rattle.query.specs.Card.{Card}
 
 -- the sum over the conditions
@@ -31,8 +32,22 @@ productCount card = overConditions (conditionProducts (card .prime)) (card .cond
 abbrev pub squareCount : Card → ℕ
 squareCount card = overConditions (conditionSquares (card .prime)) (card .conditions)
 
+-- "100(c-1)" and the cost of each condition
+abbrev pub costSum : Card → ℕ
+costSum card = 100 * conditionsLessOne card + overConditions (conditionCost (card .prime) (card .weight)) (card .conditions)
+
 -- "100(c-1) plus, for each condition, n(50(p-3) + s(floor((p-1)/4)+1)) + 100(2n-2-floor(log2 n))"
 abbrev pub costBound : Card → ℕ
 costBound card =
     100 * conditionsLessOne card
     + overConditions (λ (c : Condition). costSummand (card .prime) (card .weight) (c .digits)) (card .conditions)
+
+-- the five numbers from the card alone
+abbrev pub numbersOf : Card → Report
+numbersOf card = record {
+  gates = gateCount card;
+  products = productCount card;
+  squares = squareCount card;
+  cost = costSum card;
+  depth = depthFormula card;
+}

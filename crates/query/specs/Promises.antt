@@ -22,9 +22,10 @@ use Rattle.circuit.specs.Table.{tableBytes, wellFormed, mostGates}
 use Rattle.circuit.specs.Tree.{Tree, leaves, height}
 use Rattle.circuit.specs.Value.{values}
 use Rattle.comparison.specs.Condition.{Condition}
+use Rattle.comparison.specs.Formulas.{conditionCost, costSummand}
 use Rattle.comparison.specs.Relation.{isOrder}
 use Rattle.query.specs.Card.{Card, slotsOf}
-use Rattle.query.specs.Formulas.{gateCount, depthFormula, productCount, squareCount, costBound}
+use Rattle.query.specs.Formulas.{gateCount, depthFormula, productCount, squareCount, costSum, costBound, numbersOf}
 use Rattle.query.specs.Holds.{allHold}
 use Rattle.query.specs.Outcomes.{tableRoom, building, forecasting}
 use Rattle.query.specs.Reading.{readCard}
@@ -65,12 +66,16 @@ abbrev pub BoundedCost : Type 0
 BoundedCost =
     (bytes : List ℕ) (card : Card) → readCard bytes ≡ accepted card → cost (card .weight) (gatesOf card) ≤ costBound card
 
--- for order conditions it is exactly that
+-- of an order condition: its cost is exactly that summand
+abbrev pub OrderPart : Card → Condition → Type 0
+OrderPart card c =
+    isOrder (c .relation) ≡ true → conditionCost (card .prime) (card .weight) c ≡ costSummand (card .prime) (card .weight) (c .digits)
+
+-- the cost is that of the conditions and of the product tree, and of each order condition exactly the summand, whatever the others are
 abbrev pub ExactCost : Type 0
 ExactCost =
     (bytes : List ℕ) (card : Card) → readCard bytes ≡ accepted card
-    → Every (λ (c : Condition). isOrder (c .relation) ≡ true) (card .conditions)
-    → cost (card .weight) (gatesOf card) ≡ costBound card
+    → (cost (card .weight) (gatesOf card) ≡ costSum card) × Every (OrderPart card) (card .conditions)
 
 -- and whatever the conditions, products and squares are counted by formulas
 abbrev pub ExactCounts : Type 0
@@ -93,6 +98,10 @@ SameReport =
     × (forecasting bytes ≡ accepted (report (tableOf card)))
     × (checking (tableBytes (tableOf card) ++ later) ≡ accepted (report (tableOf card)))
     × (checking (building bytes lent .lent) ≡ accepted (report (tableOf card)))
+
+-- and these are the formulas' numbers
+abbrev pub ReportedNumbers : Type 0
+ReportedNumbers = (bytes : List ℕ) (card : Card) → readCard bytes ≡ accepted card → report (tableOf card) ≡ numbersOf card
 
 -- Trim hands back exactly the table
 abbrev pub TrimsToTable : Type 0

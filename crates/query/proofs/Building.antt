@@ -1,23 +1,40 @@
--- What Build and Forecast turn away: 11 exactly for want of room, lent bytes kept on every refusal,
+-- What Build leaves, and what Build and Forecast turn away: 11 exactly for want of room, lent bytes kept on every refusal,
 -- and the same refusals of a card by both.
 -- By the two cases of reading the card, and of the room.
 -- Assumes nothing.
 use mathlib.Core.Path.{_≡_, refl, sym}
 use mathlib.Core.Bool.{Bool, true, false}
-use mathlib.Core.List.{List}
-use Prim.Native.Nat.{ℕ, _<_}
+use mathlib.Core.List.{List, _++_}
+use Prim.Native.Nat.{ℕ, _≤_, _<_}
 use native.Mathlib.Omega.{arith}
 use native.Mathlib.Decide.{decLt}
 use borrow.Author.Tests.{lt-ltb, le-ltb}
 use lib.Dec.{ltb}
-use lib.ListN.{length}
+use lib.ListN.{length, drop}
+use lib.Seq.{take-at, drop-at}
 use Rattle.answer.specs.Outcome.{Answer, refused, accepted}
 use Rattle.answer.proofs.Outcome.{refused≢accepted}
+use Rattle.circuit.specs.Report.{report}
+use Rattle.circuit.specs.Table.{tableBytes}
+use Rattle.circuit.proofs.Reading.{length-table}
 use Rattle.query.specs.Card.{Card}
-use Rattle.query.specs.CardPromises.{RoomDecides, RefusalKeeps, SameRefusal}
+use Rattle.query.specs.CardPromises.{RoomDecides, FillsExactly, RefusalKeeps, SameRefusal}
 use Rattle.query.specs.Outcomes.{tableRoom, writing, building}
 use Rattle.query.specs.Reading.{readCard}
 use Rattle.query.specs.Whole.{tableOf}
+
+-- an accepted card with room
+pub built : (bytes lent : List ℕ) (card : Card) → readCard bytes ≡ accepted card → tableRoom (tableOf card) ≤ length lent
+    → building bytes lent
+    ≡ record { answer = accepted (report (tableOf card)); lent = tableBytes (tableOf card) ++ drop (tableRoom (tableOf card)) lent }
+built bytes lent card e room = rw (e, le-ltb (length lent) (tableRoom (tableOf card)) room)
+
+pub fills-exactly : FillsExactly
+fills-exactly bytes lent card e room =
+    let table = tableOf card in
+    let later = drop (tableRoom table) lent in
+    rw (built bytes lent card e room)
+    (take-at (tableBytes table) later (tableRoom table) (length-table table), drop-at (tableBytes table) later (tableRoom table) (length-table table))
 
 pub room-decides : RoomDecides
 room-decides bytes lent card e = (
