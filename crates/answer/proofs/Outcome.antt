@@ -27,6 +27,12 @@ pub answered : {A B : Type 0} {b : B} (first : Answer A) (later : A → Answer B
 answered (refused k) later e = absurd (refused≢accepted e)
 answered (accepted a) later e = (a, refl, e)
 
+-- what follows an answer may be replaced by what is the same for every value
+pub onAnswer-same : {A R : Type 0} (first : Answer A) (refusal : ℕ → R) {f g : A → R} → ((a : A) → f a ≡ g a)
+    → onAnswer first refusal f ≡ onAnswer first refusal g
+onAnswer-same (refused k) refusal same = refl
+onAnswer-same (accepted a) refusal same = same a
+
 pub accepted-same : {A : Type 0} {a b : A} → accepted a ≡ accepted b → a ≡ b
 accepted-same e = cc
 

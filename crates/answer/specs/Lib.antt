@@ -1,3 +1,4 @@
--- What the operations answer: the number of each refusal, and the outcomes.
+-- What the operations answer: the number of each refusal, the outcomes, and the report on a table.
 pub mod Numbers
 pub mod Outcome
+pub mod Report

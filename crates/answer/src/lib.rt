@@ -1,8 +1,9 @@
-// Why an operation turns its input away: one name for each number of document 01, "Operations and
-// what they turn away", in the order of the numbers.
+// What the operations answer: why one turns its input away, and the report on a table.
 ghost use mathlib.Core.Path.{_≡_};
 ghost use Rattle.answer.specs.Numbers.{refusalNumber};
 
+// Why an operation turns its input away: one name for each number of document 01, "Operations and
+// what they turn away", in the order of the numbers.
 pub enum Refusal {
     CardTooShort,
     WrongMark,
@@ -60,4 +61,25 @@ pub fn refusal_number(why: Refusal) -> u8
         Refusal::DigitTooLarge => 23,
         Refusal::NumberTooWide => 24,
     }
+}
+
+// Levels. A type of its own, as is Cost, so that levels and hundredths never meet in one sum.
+pub struct Depth(pub u16);
+
+// Hundredths.
+pub struct Cost(pub u32);
+
+// The counts of a table.
+pub struct Report {
+    pub gates: u16,
+    pub products: u16,
+    pub squares: u16,
+    pub cost: Cost,
+    pub depth: Depth,
+}
+
+// What Build, Forecast and Check answer.
+pub enum Reported {
+    Success(Report),
+    Refused(Refusal),
 }

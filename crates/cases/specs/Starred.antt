@@ -3,11 +3,11 @@ use Prim.Native.Nat.{ℕ}
 use mathlib.Core.List.{List, [], _∷_, _++_}
 use lib.ListN.{replicate}
 use Rattle.answer.specs.Outcome.{Answer, refused, accepted, Outcome, onAnswer}
+use Rattle.answer.specs.Report.{Report}
 use Rattle.field.specs.Polynomials.{orderConstants}
 use Rattle.digits.specs.Encoding.{encoding}
 use Rattle.digits.specs.Decoding.{decoding}
 use Rattle.circuit.specs.Outcomes.{running}
-use Rattle.circuit.specs.Report.{Report}
 use Rattle.query.specs.Card.{Card}
 use Rattle.query.specs.Outcomes.{building, forecasting}
 use Rattle.query.specs.Reading.{readCard}

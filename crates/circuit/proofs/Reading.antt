@@ -19,7 +19,7 @@ use Rattle.digits.specs.Number.{wrongCount, allBelow}
 use Rattle.digits.proofs.Number.{below-at, below-drop}
 use Rattle.circuit.specs.Bytes.{Mark, byte, wrongMark, u16At}
 use Rattle.circuit.specs.Gate.{Gate, Left, Right, Add, Sub, Scale, Flip, Mul, fields, kinds, gateOf, gateMark, gateBytes}
-use Rattle.circuit.specs.Reading.{fitting, readGate, readGates, headOf, countOf, reading}
+use Rattle.circuit.specs.Reading.{fitting, readGate, readGates, headOf, countOf, readHead, readTable, reading}
 use Rattle.circuit.specs.Table.{Head, Table, headMark, gatesBytes, tableBytes, wrongWeight, wrongGateCount, fits, allFit}
 use Rattle.circuit.proofs.Fitting.{fit-cons}
 use Rattle.circuit.proofs.WellFormed.{WellFormed}
@@ -68,7 +68,7 @@ read-table table later w =
     let least = le-ltb (length (tableBytes table ++ later)) 8 (omega arith) in
     let room = le-ltb (length (tableBytes table ++ later)) (8 * (count + 1)) (omega arith) in
     let gates = read-gates (table .head) 0 (table .gates) later (w .fitted) in
-    rw (least, w .prime, w .weight, w .slots, whole count, w .count, room, gates)
+    rw (least, w .prime, w .weight, w .slots, whole count, w .count, room) (rw (whole count, gates))
 
 -- ---- from bytes to gates
 
@@ -172,19 +172,19 @@ gates-bytes head k (suc count) bytes gs l h e =
     ∙ ap (λ (l : List ℕ). gateBytes (s .0) ++ l) later
     ∙ ap₂ (λ (gs : List Gate) (l : List ℕ). gatesBytes gs ++ l) (sym (s .2)) end
 
--- every rule that accepted bytes have passed, and what was read
-pub record Reads (bytes : List ℕ) (table : Table) : Type 0 where
+-- every rule that an accepted head has passed
+pub record Heads (bytes : List ℕ) : Type 0 where
   pub mark : (byte bytes 0 ≡ headMark .opening) × (byte bytes 1 ≡ headMark .closing)
-  pub head : table .head ≡ headOf bytes
+  pub prime : listed (headOf bytes .prime) ≡ true
+  pub weight : wrongWeight (headOf bytes .weight) ≡ false
+  pub slots : wrongCount (headOf bytes .slots) ≡ false
   pub spare : byte bytes 5 ≡ 0
-  pub count : length (table .gates) ≡ countOf bytes
+  pub count : wrongGateCount (countOf bytes) ≡ false
   pub room : 8 * (countOf bytes + 1) ≤ length bytes
-  pub gates : readGates (headOf bytes) 0 (countOf bytes) (drop 8 bytes) ≡ accepted (table .gates)
-  pub formed : WellFormed table
 
-pub reads : (bytes : List ℕ) (table : Table) → reading bytes ≡ accepted table → Reads bytes table
-reads bytes table e =
-    let answer : Answer Table → Answer Table = λ r. r in
+pub heads : (bytes : List ℕ) (head : Head) → readHead bytes ≡ accepted head → Heads bytes × (headOf bytes ≡ head)
+heads bytes head e =
+    let answer : Answer Head → Answer Head = λ r. r in
     let least = passed answer (ltb (length bytes) 8) (refused 12) _ refl e in
     let mark = passed answer (wrongMark headMark bytes) (refused 2) _ refl (least .1) in
     let prime = passed answer (not (listed (headOf bytes .prime))) (refused 3) _ refl (mark .1) in
@@ -193,21 +193,43 @@ reads bytes table e =
     let spare = passed answer (not (eqb (byte bytes 5) 0)) (refused 5) _ refl (slots .1) in
     let count = passed answer (wrongGateCount (countOf bytes)) (refused 14) _ refl (spare .1) in
     let room = passed answer (ltb (length bytes) (8 * (countOf bytes + 1))) (refused 15) _ refl (count .1) in
-    let gates = answered (readGates (headOf bytes) 0 (countOf bytes) (drop 8 bytes)) _ (room .1) in
+    let kept : Heads bytes = record {
+      mark = mark-is headMark bytes (mark .0);
+      prime = not-false (listed (headOf bytes .prime)) (prime .0);
+      weight = weight .0;
+      slots = slots .0;
+      spare = eqb-true _ _ (not-false _ (spare .0));
+      count = count .0;
+      room = ltb-false _ _ (room .0);
+    } in
+    (kept, accepted-same (room .1))
+
+-- and accepted bytes, with what was read
+pub record Reads (bytes : List ℕ) (table : Table) : Type 0 where
+  pub kept : Heads bytes
+  pub head : table .head ≡ headOf bytes
+  pub count : length (table .gates) ≡ countOf bytes
+  pub gates : readGates (headOf bytes) 0 (countOf bytes) (drop 8 bytes) ≡ accepted (table .gates)
+  pub formed : WellFormed table
+
+pub reads : (bytes : List ℕ) (table : Table) → reading bytes ≡ accepted table → Reads bytes table
+reads bytes table e =
+    let first = answered (readHead bytes) (readTable bytes) e in
+    let h = heads bytes (first .0) (first .1) in
+    let read : readTable bytes (headOf bytes) ≡ accepted table = ap (readTable bytes) (h .1) ∙ first .2 in
+    let gates = answered (readGates (headOf bytes) 0 (countOf bytes) (drop 8 bytes)) _ read in
     let same : record { head = headOf bytes; gates = gates .0 } ≡ table = accepted-same (gates .2) in
     let fit = gates-fit (headOf bytes) 0 (countOf bytes) (drop 8 bytes) (gates .0) (gates .1) in
     rw (← same) (record {
-      mark = mark-is headMark bytes (mark .0);
+      kept = h .0;
       head = refl;
-      spare = eqb-true _ _ (not-false _ (spare .0));
       count = fit .0;
-      room = ltb-false _ _ (room .0);
       gates = gates .1;
       formed = record {
-        prime = not-false (listed (headOf bytes .prime)) (prime .0);
-        weight = weight .0;
-        slots = slots .0;
-        count = rw (fit .0) (count .0);
+        prime = h .0 .prime;
+        weight = h .0 .weight;
+        slots = h .0 .slots;
+        count = rw (fit .0) (h .0 .count);
         fitted = fit .1;
       };
     })
@@ -217,7 +239,7 @@ pub table-bytes : (bytes : List ℕ) (table : Table) → allBelow 256 bytes ≡ 
 table-bytes bytes table h r =
     let count = u16-bytes bytes 6 (length (table .gates)) h (r .count) in
     let size : 8 * (length (table .gates) + 1) ≡ 8 + 8 * countOf bytes = omega (arith, r .count) in
-    let room : 8 * countOf bytes ≤ length (drop 8 bytes) = rw length-drop (omega (arith, r .room)) in
+    let room : 8 * countOf bytes ≤ length (drop 8 bytes) = rw length-drop (omega (arith, r .kept .room)) in
     let gates = gates-bytes (headOf bytes) 0 (countOf bytes) (drop 8 bytes) (table .gates) room (below-drop 256 bytes 8 h) (r .gates) in
-    eight bytes (omega (arith, r .room))
-    ∙ rw (size, ← drop-drop (8 * countOf bytes) 8 bytes, r .head, r .mark .0, r .mark .1, r .spare, count .0, count .1, ← gates)
+    eight bytes (omega (arith, r .kept .room))
+    ∙ rw (size, ← drop-drop (8 * countOf bytes) 8 bytes, r .head, r .kept .mark .0, r .kept .mark .1, r .kept .spare, count .0, count .1, ← gates)

@@ -3,10 +3,10 @@ use mathlib.Core.Path.{_≡_}
 use mathlib.Core.List.{List, [], _∷_, _++_, map}
 use Prim.Native.Nat.{ℕ}
 use Rattle.answer.specs.Outcome.{accepted}
+use Rattle.answer.specs.Report.{Report}
 use Rattle.circuit.specs.Gate.{Left, Right, Add, Sub, Scale, Flip, Mul}
 use Rattle.circuit.specs.Meaning.{output}
 use Rattle.circuit.specs.Outcomes.{checking, running}
-use Rattle.circuit.specs.Report.{Report}
 use Rattle.circuit.specs.Table.{Table, tableBytes}
 use Rattle.circuit.specs.Value.{values}
 

@@ -5,10 +5,11 @@ use mathlib.Core.List.{List, [], _++_}
 use lib.Dec.{ltb, eqb}
 use lib.ListN.{length, take, drop}
 use Rattle.answer.specs.Outcome.{Answer, refused, accepted, Outcome, unaltered, refuse, onAnswer}
+use Rattle.answer.specs.Report.{Report}
 use Rattle.digits.specs.Number.{allBelow}
 use Rattle.circuit.specs.Meaning.{entries, output}
 use Rattle.circuit.specs.Reading.{reading}
-use Rattle.circuit.specs.Report.{Report, report}
+use Rattle.circuit.specs.Report.{report}
 use Rattle.circuit.specs.Table.{Table, leftSlots, rightSlots}
 use Rattle.circuit.specs.Value.{values}
 

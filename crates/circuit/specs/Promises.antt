@@ -6,6 +6,7 @@ use mathlib.Core.List.{List, [], _++_}
 use Prim.Native.Nat.{ℕ, _+_, _*_, _≤_, _<_}
 use lib.ListN.{length, drop}
 use Rattle.answer.specs.Outcome.{refused, accepted}
+use Rattle.answer.specs.Report.{Report}
 use Rattle.digits.specs.Number.{allBelow}
 use Rattle.circuit.specs.Count.{products, squares}
 use Rattle.circuit.specs.Depth.{depths}
@@ -13,7 +14,7 @@ use Rattle.circuit.specs.Gate.{Gate}
 use Rattle.circuit.specs.Meaning.{entries, entryAt}
 use Rattle.circuit.specs.Outcomes.{checking, trimming, runningTable, running}
 use Rattle.circuit.specs.Reading.{countOf, reading}
-use Rattle.circuit.specs.Report.{Report, report}
+use Rattle.circuit.specs.Report.{report}
 use Rattle.circuit.specs.Table.{Head, Table, tableBytes, allFit, wellFormed, mostGates}
 use Rattle.circuit.specs.Value.{values}
 

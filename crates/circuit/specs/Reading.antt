@@ -16,12 +16,16 @@ use Rattle.circuit.specs.Table.{Head, Table, headMark, wrongWeight, wron
 abbrev pub fitting : Head → ℕ → ℕ → Gate → Answer Gate
 fitting head k b g = refuse (not (fits head k g && eqb b (fields g .b))) (refused 17) (accepted g)
 
+-- "16 kind, 17 an operand against its kind": gate number k of a kind, over a and b
+abbrev pub readFields : Head → ℕ → ℕ → ℕ → ℕ → Answer Gate
+readFields head k kind a b = onAnswer (gateOf kind a b) refused (fitting head k b)
+
 -- "then by gate 2 mark, 5 spare, 16 kind, 17 an operand against its kind": gate number k, whose record the bytes begin with
 abbrev pub readGate : Head → ℕ → List ℕ → Answer Gate
 readGate head k bytes =
     refuse (wrongMark gateMark bytes) (refused 2)
     (refuse (not (eqb (byte bytes 3) 0)) (refused 5)
-    (onAnswer (gateOf (byte bytes 2) (u16At bytes 4) (u16At bytes 6)) refused (fitting head k (u16At bytes 6))))
+    (readFields head k (byte bytes 2) (u16At bytes 4) (u16At bytes 6)))
 
 -- the gates of the next records, of which the first has number k
 unfoldable pub readGates : Head → ℕ → ℕ → List ℕ → Answer (List Gate)
@@ -37,9 +41,9 @@ headOf bytes = record { prime = byte bytes 2; weight = byte bytes 3; slots = byt
 abbrev pub countOf : List ℕ → ℕ
 countOf bytes = u16At bytes 6
 
--- "12 under 8 bytes; 2; 3; 4; 13 N not 1 to 16; 5; 14 G not 1 to 8191; 15 under 8(G+1) bytes; then by gate"
-abbrev pub reading : List ℕ → Answer Table
-reading bytes =
+-- "12 under 8 bytes; 2; 3; 4; 13 N not 1 to 16; 5; 14 G not 1 to 8191; 15 under 8(G+1) bytes"
+abbrev pub readHead : List ℕ → Answer Head
+readHead bytes =
     refuse (ltb (length bytes) 8) (refused 12)
     (refuse (wrongMark headMark bytes) (refused 2)
     (refuse (not (listed (headOf bytes .prime))) (refused 3)
@@ -48,5 +52,12 @@ reading bytes =
     (refuse (not (eqb (byte bytes 5) 0)) (refused 5)
     (refuse (wrongGateCount (countOf bytes)) (refused 14)
     (refuse (ltb (length bytes) (8 * (countOf bytes + 1))) (refused 15)
-    (onAnswer (readGates (headOf bytes) 0 (countOf bytes) (drop 8 bytes)) refused (λ gates.
-    accepted (record { head = headOf bytes; gates = gates }))))))))))
+    (accepted (headOf bytes)))))))))
+
+-- "then by gate"
+abbrev pub readTable : List ℕ → Head → Answer Table
+readTable bytes head =
+    onAnswer (readGates head 0 (countOf bytes) (drop 8 bytes)) refused (λ gates. accepted (record { head = head; gates = gates }))
+
+abbrev pub reading : List ℕ → Answer Table
+reading bytes = onAnswer (readHead bytes) refused (readTable bytes)

@@ -11,6 +11,7 @@ use native.Mathlib.Nat.{le-refl, zero-add, mod-eq-of-lt}
 use borrow.Author.Tests.{le-ltb, eq-eqb}
 use lib.ListN.{length, length-append, drop}
 use Rattle.answer.specs.Outcome.{accepted, Outcome}
+use Rattle.answer.specs.Report.{Report}
 use Rattle.field.specs.Bit.{bit}
 use Rattle.field.specs.Logarithm.{clog}
 use Rattle.field.specs.Sum.{total}
@@ -26,7 +27,6 @@ use Rattle.circuit.specs.Factors.{InOrder, breadth, product}
 use Rattle.circuit.specs.Gate.{Gate}
 use Rattle.circuit.specs.Meaning.{entries, entryAt, output}
 use Rattle.circuit.specs.ProductTree.{productTree}
-use Rattle.circuit.specs.Report.{Report}
 use Rattle.circuit.specs.Segment.{Node, Segment}
 use Rattle.circuit.specs.Table.{Head, allFit, wellFormed, mostGates}
 use Rattle.circuit.specs.Value.{values}

@@ -2,9 +2,9 @@
 use Prim.Native.Nat.{ℕ, _+_, _-_, _*_, _^_}
 use mathlib.Core.List.{List, map}
 use lib.ListN.{length}
+use Rattle.answer.specs.Report.{Report}
 use Rattle.field.specs.Logarithm.{clog}
 use Rattle.field.specs.Sum.{total}
-use Rattle.circuit.specs.Report.{Report}
 use Rattle.comparison.specs.Condition.{Condition}
 use Rattle.comparison.specs.Formulas.{conditionSize, conditionProducts, conditionSquares, conditionCost, costSummand}
 use Rattle.query.specs.Card.{Card}

@@ -4,7 +4,8 @@ use mathlib.Core.List.{List, _++_}
 use lib.Dec.{ltb}
 use lib.ListN.{length, drop}
 use Rattle.answer.specs.Outcome.{Answer, refused, accepted, Outcome, unaltered, refuse, onAnswer}
-use Rattle.circuit.specs.Report.{Report, report}
+use Rattle.answer.specs.Report.{Report}
+use Rattle.circuit.specs.Report.{report}
 use Rattle.circuit.specs.Table.{Table, tableBytes}
 use Rattle.query.specs.Reading.{readCard}
 use Rattle.query.specs.Whole.{tableOf}

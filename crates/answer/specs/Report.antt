@@ -1,0 +1,24 @@
+-- "Success answers G, products, squares, cost, depth" (document 01, "Operations and what they turn away").
+use Prim.Native.Nat.{ℕ}
+use Rattle.answer.specs.Numbers.{refusalNumber}
+use Rattle.answer.specs.Outcome.{Answer, refused, accepted}
+use Rattle.answer.specs.declared.Reported.{Reported}
+use Rattle.answer.specs.declared.Reported.the-variants.{Success, Refused}
+
+pub record Report : Type 0 where
+  pub gates : ℕ
+  pub products : ℕ
+  pub squares : ℕ
+  pub cost : ℕ
+  pub depth : ℕ
+
+-- the refusal's number, or the five values, for each case of the enum
+abbrev pub reportAnswer : Reported → Answer Report
+reportAnswer (Success told) = accepted (record {
+  gates = told .gates;
+  products = told .products;
+  squares = told .squares;
+  cost = told .cost .0;
+  depth = told .depth .0;
+})
+reportAnswer (Refused why) = refused (refusalNumber why)
