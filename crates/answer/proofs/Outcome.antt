@@ -5,8 +5,9 @@
 use mathlib.Core.Path.{_≡_, refl, sym, ap, subst, _∙_}
 use mathlib.Core.Bool.{Bool, true, false}
 use mathlib.Core.List.{List, [], _∷_}
-use Prim.Native.Nat.{ℕ, zero, suc, _+_}
+use Prim.Native.Nat.{ℕ, zero, suc, _+_, _<_}
 use native.Mathlib.Omega.{arith}
+use lib.ListN.{length}
 use Rattle.answer.specs.Outcome.{Answer, refused, accepted, Outcome, refuse, onAnswer, numbered}
 
 pub refused≢accepted : {A : Type 0} {k : ℕ} {a : A} → refused k ≡ accepted a → ⊥
@@ -50,3 +51,12 @@ numbered-is P n refusal (suc zero) (b ∷ more) a known e =
 numbered-is P n refusal (suc (suc place)) (b ∷ more) a known e =
     let here : suc n + suc place ≡ n + suc (suc place) = omega arith in
     subst (λ (m : ℕ). P m a) here (numbered-is P (suc n) refusal (suc place) more a (known .1) e)
+
+-- a place that is 0, or after the last entry
+pub numbered-none : {A : Type 0} (refusal place : ℕ) (entries : List A) → (0 < place → length entries < place)
+    → numbered refusal place entries ≡ refused refusal
+numbered-none refusal place [] h = refl
+numbered-none refusal zero (a ∷ more) h = refl
+numbered-none refusal (suc zero) (a ∷ more) h = absurd (omega (arith, h (omega arith)))
+numbered-none refusal (suc (suc place)) (a ∷ more) h =
+    numbered-none refusal (suc place) more (λ l. omega (arith, h (omega arith)))

@@ -49,7 +49,7 @@ values-below p left right gates some lefts rights = interpret-below p left right
 
 -- ---- depths
 
-depth-below : (E : ℕ → ℕ) (k : ℕ) → ((i : ℕ) → i < k → E i ≤ i) → (g : Gate) → Named k g → meaning depths E g ≤ k
+pub depth-below : (E : ℕ → ℕ) (k : ℕ) → ((i : ℕ) → i < k → E i ≤ i) → (g : Gate) → Named k g → meaning depths E g ≤ k
 depth-below E k low (Left a) n = zero-le
 depth-below E k low (Right a) n = zero-le
 depth-below E k low (Add a b) n = omega (arith, low a (n .0), low b (n .1))
@@ -79,7 +79,7 @@ depths-below head gates k t l =
 
 -- ---- counts
 
-one-at-most : (m e : Bool) → bit (m && not e) + bit (m && e) ≤ 1
+pub one-at-most : (m e : Bool) → bit (m && not e) + bit (m && e) ≤ 1
 one-at-most true true = omega arith
 one-at-most true false = omega arith
 one-at-most false e = omega arith

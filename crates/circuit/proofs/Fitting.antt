@@ -32,7 +32,7 @@ AllNamed k (g ∷ gs) = Named k g × AllNamed (suc k) gs
 pub two-below : (a b k : ℕ) → (ltb a k && ltb b k) ≡ true → (a < k) × (b < k)
 two-below a b k t = let s = both (ltb a k) (ltb b k) t in (ltb-true a k (s .0), ltb-true b k (s .1))
 
-named : (head : Head) (k : ℕ) (g : Gate) → fits head k g ≡ true → Named k g
+pub named : (head : Head) (k : ℕ) (g : Gate) → fits head k g ≡ true → Named k g
 named head k (Left a) t = tt
 named head k (Right a) t = tt
 named head k (Add a b) t = two-below a b k t

@@ -85,15 +85,15 @@ in-order : (a b : ℕ) → Places (IsKind a) 0 (kinds a b)
 in-order a b = omega arith
 
 -- what a record says whose gate was read
-record Says (head : Head) (k : ℕ) (bytes : List ℕ) (g : Gate) : Type 0 where
-  mark : (byte bytes 0 ≡ gateMark .opening) × (byte bytes 1 ≡ gateMark .closing)
-  spare : byte bytes 3 ≡ 0
-  kind : fields g .kind ≡ byte bytes 2
-  a : fields g .a ≡ u16At bytes 4
-  b : fields g .b ≡ u16At bytes 6
-  fitted : fits head k g ≡ true
+pub record Says (head : Head) (k : ℕ) (bytes : List ℕ) (g : Gate) : Type 0 where
+  pub mark : (byte bytes 0 ≡ gateMark .opening) × (byte bytes 1 ≡ gateMark .closing)
+  pub spare : byte bytes 3 ≡ 0
+  pub kind : fields g .kind ≡ byte bytes 2
+  pub a : fields g .a ≡ u16At bytes 4
+  pub b : fields g .b ≡ u16At bytes 6
+  pub fitted : fits head k g ≡ true
 
-says : (head : Head) (k : ℕ) (bytes : List ℕ) (g : Gate) → readGate head k bytes ≡ accepted g → Says head k bytes g
+pub says : (head : Head) (k : ℕ) (bytes : List ℕ) (g : Gate) → readGate head k bytes ≡ accepted g → Says head k bytes g
 says head k bytes g e =
     let answer : Answer Gate → Answer Gate = λ r. r in
     let mark = passed answer (wrongMark gateMark bytes) (refused 2) _ refl e in
@@ -139,7 +139,7 @@ gate-bytes head k bytes g l h s =
     eight bytes l ∙ rw (s .mark .0, s .mark .1, s .spare, s .kind, a .0, a .1, b .0, b .1)
 
 -- the first gate, and the others
-gates-cons : (head : Head) (k count : ℕ) (bytes : List ℕ) (gs : List Gate) → readGates head k (suc count) bytes ≡ accepted gs
+pub gates-cons : (head : Head) (k count : ℕ) (bytes : List ℕ) (gs : List Gate) → readGates head k (suc count) bytes ≡ accepted gs
     → (g : Gate) × (later : List Gate) × (gs ≡ g ∷ later) × Says head k bytes g × (readGates head (suc k) count (drop 8 bytes) ≡ accepted later)
 unfolding readGates
 gates-cons head k count bytes gs e =
@@ -148,7 +148,7 @@ gates-cons head k count bytes gs e =
     (first .0, others .0, sym (accepted-same (others .2)), says head k bytes (first .0) (first .1), others .1)
 
 -- the gates that were read are as many as there should be, and each fits
-gates-fit : (head : Head) (k count : ℕ) (bytes : List ℕ) (gs : List Gate) → readGates head k count bytes ≡ accepted gs
+pub gates-fit : (head : Head) (k count : ℕ) (bytes : List ℕ) (gs : List Gate) → readGates head k count bytes ≡ accepted gs
     → (length gs ≡ count) × (allFit head k gs ≡ true)
 unfolding readGates allFit
 gates-fit head k zero bytes gs e = rw (← accepted-same e) (refl, refl)

@@ -21,7 +21,7 @@ pub enum Decoded {
 }
 
 // The most digits of a number.
-const MOST_DIGITS: usize = 16;
+pub const MOST_DIGITS: usize = 16;
 
 // The largest u64.
 const LARGEST: u64 = 0xffff_ffff_ffff_ffff;
@@ -97,7 +97,7 @@ pub fn encode(p: u8, n: usize, number: u64, out: &mut [u8]) -> Encoded
 }
 
 // Whether each digit is below base.
-fn are_below(digits: &[u8], base: u64) -> bool
+pub fn are_below(digits: &[u8], base: u64) -> bool
     ensures { λ r. ⌜ r ≡ allBelow base (now (digits .entry)) ⌝ }
 {
     let mut i = 0;

@@ -1,0 +1,60 @@
+-- What a gate of each kind adds: its rule, 17, and its depth and counts, as the definitions of reading and of the report give them.
+-- Assumes nothing.
+use mathlib.Core.Path.{_≡_, refl, sym, ap, _∙_}
+use mathlib.Core.Bool.{Bool, true, false, not, _&&_}
+use mathlib.Core.List.{List}
+use Prim.Native.Nat.{ℕ}
+use borrow.Author.Tests.{eq-eqb}
+use lib.Dec.{ltb, eqb}
+use lib.ListN.{length, getD}
+use Rattle.answer.specs.Outcome.{Answer, refused, accepted, refuse}
+use Rattle.circuit.specs.Constant.{isConstant}
+use Rattle.circuit.specs.Gate.{Gate, Left, Right, Add, Sub, Scale, Flip, Mul}
+use Rattle.circuit.specs.Reading.{readFields}
+use Rattle.circuit.specs.Table.{Head, leftSlots, rightSlots}
+use Rattle.table.specs.Adding.{Addition, addition, linear, isEarlier, deeperOf, multiplied, operands, adding}
+use Rattle.table.proofs.NoKind.{NoKind, no-kind}
+
+-- a gate that was tested
+tested : (fit : Bool) (earlier : List ℕ) (g : Gate) → operands fit (addition earlier g) ≡ adding earlier (refuse (not fit) (refused 17) (accepted g))
+tested true earlier g = refl
+tested false earlier g = refl
+
+-- a gate whose b is its record's
+own-b : (fit : Bool) (b : ℕ) → fit ≡ (fit && eqb b b)
+own-b true b = sym (eq-eqb b b refl)
+own-b false b = refl
+
+tested-both : (fit : Bool) (b : ℕ) (earlier : List ℕ) (g : Gate)
+    → operands fit (addition earlier g) ≡ adding earlier (refuse (not (fit && eqb b b)) (refused 17) (accepted g))
+tested-both fit b earlier g = ap (λ (t : Bool). operands t (addition earlier g)) (own-b fit b) ∙ tested (fit && eqb b b) earlier g
+
+module _ (head : Head) (earlier : List ℕ) (a b : ℕ) where
+  -- what a gate of a kind adds
+  abbrev ofKind : ℕ → Answer Addition
+  ofKind kind = adding earlier (readFields head (length earlier) kind a b)
+
+  pub left-adds : operands (ltb a (leftSlots head) && eqb b 0) (linear 0) ≡ ofKind 1
+  left-adds = tested (ltb a (leftSlots head) && eqb b 0) earlier (Left a)
+
+  pub right-adds : operands (ltb a (rightSlots head) && eqb b 0) (linear 0) ≡ ofKind 2
+  right-adds = tested (ltb a (rightSlots head) && eqb b 0) earlier (Right a)
+
+  pub add-adds : operands (isEarlier earlier a && isEarlier earlier b) (linear (deeperOf earlier a b)) ≡ ofKind 3
+  add-adds = tested-both (isEarlier earlier a && isEarlier earlier b) b earlier (Add a b)
+
+  pub sub-adds : operands (isEarlier earlier a && isEarlier earlier b) (linear (deeperOf earlier a b)) ≡ ofKind 4
+  sub-adds = tested-both (isEarlier earlier a && isEarlier earlier b) b earlier (Sub a b)
+
+  pub scale-adds : operands (isEarlier earlier a && isConstant (head .prime) b) (linear (getD earlier a 0)) ≡ ofKind 5
+  scale-adds = tested-both (isEarlier earlier a && isConstant (head .prime) b) b earlier (Scale a b)
+
+  pub flip-adds : operands (isEarlier earlier a && eqb b 0) (linear (getD earlier a 0)) ≡ ofKind 6
+  flip-adds = tested (isEarlier earlier a && eqb b 0) earlier (Flip a)
+
+  pub mul-adds : operands (isEarlier earlier a && isEarlier earlier b) (multiplied a b (deeperOf earlier a b)) ≡ ofKind 7
+  mul-adds = tested-both (isEarlier earlier a && isEarlier earlier b) b earlier (Mul a b)
+
+  -- "16 kind"
+  pub other-adds : (kind : ℕ) → NoKind kind → refused 16 ≡ ofKind kind
+  other-adds kind n = rw (no-kind kind a b n)

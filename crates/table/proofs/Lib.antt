@@ -1,0 +1,6 @@
+-- Laws that the proofs of the functions share.
+pub mod NoKind
+pub mod Adding
+pub mod Reporting
+pub mod Checking
+pub mod Outcomes

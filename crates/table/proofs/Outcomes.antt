@@ -1,0 +1,52 @@
+-- What Check and Trim answer, from what the head and the gates were read as.
+-- Assumes nothing.
+use mathlib.Core.Path.{_≡_, refl, sym, ap}
+use mathlib.Core.List.{List, []}
+use Prim.Native.Nat.{ℕ, _+_, _*_, _≤_}
+use native.Mathlib.Omega.{arith}
+use lib.ListN.{length, take, drop}
+use Rattle.answer.specs.Outcome.{Answer, refused, accepted, onAnswer}
+use Rattle.answer.specs.Report.{Report}
+use Rattle.answer.proofs.Outcome.{answered, accepted-same}
+use Rattle.field.proofs.Tests.{in-range}
+use Rattle.circuit.specs.Gate.{Gate}
+use Rattle.circuit.specs.Outcomes.{checking, trimming}
+use Rattle.circuit.specs.Reading.{readGates, countOf, readHead, reading}
+use Rattle.circuit.specs.Report.{report}
+use Rattle.circuit.specs.Table.{Head, Table, mostGates}
+use Rattle.circuit.proofs.Reading.{heads, reads}
+use Rattle.table.specs.Reporting.{reporting}
+
+-- the gate count of an accepted head, and the room for its records
+pub counted : (bytes : List ℕ) (head : Head) → readHead bytes ≡ accepted head
+    → (1 ≤ countOf bytes) × (countOf bytes ≤ mostGates) × (8 * (countOf bytes + 1) ≤ length bytes)
+counted bytes head e =
+    let h = heads bytes head e .0 in
+    let range = in-range (countOf bytes) 1 mostGates (h .count) in (range .0, range .1, h .room)
+
+pub head-refused : (bytes : List ℕ) (n : ℕ) → readHead bytes ≡ refused n → refused n ≡ checking bytes
+head-refused bytes n e = rw e
+
+gates-told : (head : Head) (read : Answer (List Gate))
+    → reporting head read ≡ onAnswer (onAnswer read refused (λ gates. accepted (record { head = head; gates = gates }))) refused (λ table. accepted (report table))
+gates-told head (refused n) = refl
+gates-told head (accepted gates) = refl
+
+pub gates-checked : (bytes : List ℕ) (head : Head) → readHead bytes ≡ accepted head
+    → reporting head (readGates head 0 (countOf bytes) (drop 8 bytes)) ≡ checking bytes
+gates-checked bytes head e = rw e (gates-told head (readGates head 0 (countOf bytes) (drop 8 bytes)))
+
+-- a table that Check accepts
+pub told-table : (bytes : List ℕ) (told : Report) → accepted told ≡ checking bytes
+    → (table : Table) × (reading bytes ≡ accepted table) × (length (table .gates) ≡ told .gates) × (8 * (told .gates + 1) ≤ length bytes)
+told-table bytes told e =
+    let t = answered (reading bytes) _ (sym e) in
+    let r = reads bytes (t .0) (t .1) in
+    let same : length (t .0 .gates) ≡ told .gates = ap (λ told. told .gates) (accepted-same (t .2)) in
+    (t .0, t .1, same, omega (arith, r .kept .room, r .count))
+
+pub trimmed : (bytes : List ℕ) (told : Report) → accepted told ≡ checking bytes → take (8 * (told .gates + 1)) bytes ≡ trimming bytes
+trimmed bytes told e = rw (← e)
+
+pub nothing : (bytes : List ℕ) (n : ℕ) → refused n ≡ checking bytes → [] ≡ trimming bytes
+nothing bytes n e = rw (← e)

@@ -1,0 +1,155 @@
+-- `table::check_gates` meets its contract. The invariant is `Checks`: the depths and counts of the k gates read so far, with the gates that are left to read, give the whole report.
+-- The measure is what is left of count.
+-- Assumes nothing.
+use mathlib.Core.Path.{refl, sym, ap, _∙_}
+use Prim.Native.Nat.{_+_, _-_}
+use native.Mathlib.Omega.{arith}
+use borrow.Author.Needs.{needs}
+use lib.ListN.{drop, set, length-drop}
+use lib.Seq.{length-take-le}
+use Rattle.circuit.specs.Reading.{readGates}
+use Rattle.table.specs.Adding.{addedAnswer}
+use Rattle.table.specs.Parts.{headIs}
+use Rattle.table.specs.Reporting.{reporting}
+use Rattle.table.proofs.Checking.{Checks, starts, finishes, rest-of, refuses, adds}
+use Rattle.table.proofs.check_gates.Statement.{statement}
+use Rattle.table.proofs.check_gates.Tie as tie
+
+abbrev Inv-loop : tie.InvT-loop
+Inv-loop table head count last depths₀ products₀ squares₀ k₀ depths products squares k =
+    Checks (headIs head) table count k depths products squares (reporting (headIs head) (readGates (headIs head) 0 count (drop 8 table)))
+
+abbrev μ-loop : tie.MeasureT-loop
+μ-loop table head count last depths₀ products₀ squares₀ k₀ depths products squares k = count - k
+
+sub-last : tie.Need-sub-last Inv-loop μ-loop
+sub-last c = search needs
+
+loop-holds : tie.Need-loop-holds Inv-loop μ-loop
+loop-holds c = starts _ _ _ _ refl
+
+add-at : tie.Need-add-at Inv-loop μ-loop
+add-at c = search needs
+
+mul-at : tie.Need-mul-at Inv-loop μ-loop
+mul-at c = search needs
+
+sub-read-gate : tie.Need-sub-read-gate Inv-loop μ-loop
+sub-read-gate c = search needs
+
+part-read-gate-start : tie.Need-part-read-gate-start Inv-loop μ-loop
+part-read-gate-start c = search needs
+
+part-read-gate-end : tie.Need-part-read-gate-end Inv-loop μ-loop
+part-read-gate-end c = search needs
+
+array-share-prefix-depths : tie.Need-array-share-prefix-depths Inv-loop μ-loop
+array-share-prefix-depths c = search needs
+
+slice-aggregate-read-gate : tie.Need-slice-aggregate-read-gate Inv-loop μ-loop
+slice-aggregate-read-gate c =
+    let l = c .before .before .before in sym (length-take-le (l .loop .k) (l .loop .depths) (omega (arith, l .loop .inv .long)))
+
+read-gate-requires : tie.Need-read-gate-requires Inv-loop μ-loop
+read-gate-requires c κs =
+    let l = c .before .before .before in
+    (rw rest-of (simp length-drop (omega arith)), l .loop .inv .low)
+
+enum-known-depth : tie.Need-enum-known-depth Inv-loop μ-loop
+enum-known-depth c = search needs
+
+mul-depths : tie.Need-mul-depths Inv-loop μ-loop
+mul-depths c = search needs
+
+array-write-depths : tie.Need-array-write-depths Inv-loop μ-loop
+array-write-depths c = search needs
+
+-- what is known once the gate is added
+after : (c : tie.After-known-told Inv-loop μ-loop) → (
+    let l = c .before .before .before .before .before .before .before in
+    let a = l .before .before .args in
+    let x = c .before .depth .given .0 in
+    Inv-loop (a .table .now) (a .head) (a .count) (a .count - 1) (l .loop .depths) 0 0 0 (set (l .loop .depths) (l .loop .k) (x .0)) (l .loop .products + x .1 .0) (l .loop .squares + x .1 .1 .0) (l .loop .k + 1)
+    )
+after c =
+    let r = c .before .before .before in
+    let l = r .before .before .before .before in
+    let s = l .before .before in
+    adds _ _ _ _ _ _ _ _ (r .before .before .before .loop-test .taken) (s .pre .1) (l .loop .inv) _ _ _
+    (sym (ap addedAnswer (c .before .depth .given .1)) ∙ r .read-gate .ensures)
+
+add-products : tie.Need-add-products Inv-loop μ-loop
+add-products c = omega (arith, after c .few)
+
+add-squares : tie.Need-add-squares Inv-loop μ-loop
+add-squares c = omega (arith, after c .few)
+
+enum-known-why : tie.Need-enum-known-why Inv-loop μ-loop
+enum-known-why c = search needs
+
+returns : tie.Need-returns Inv-loop μ-loop
+returns c =
+    let r = c .before .before .before in
+    let l = r .before .before .before .before in
+    let s = l .before .before in
+    refuses _ _ _ _ _ _ _ _ (r .before .before .before .loop-test .taken) (s .pre .1) (l .loop .inv) _
+    (sym (ap addedAnswer (c .before .why .given .1)) ∙ r .read-gate .ensures)
+
+add-k : tie.Need-add-k Inv-loop μ-loop
+add-k c = search needs
+
+loop-less : tie.Need-loop-less Inv-loop μ-loop
+loop-less c = search needs
+
+loop-again : tie.Need-loop-again Inv-loop μ-loop
+loop-again c = after c
+
+cast-t25 : tie.Need-cast-t25 Inv-loop μ-loop
+cast-t25 c = search needs
+
+cost-of-requires : tie.Need-cost-of-requires Inv-loop μ-loop
+cost-of-requires c κs = search needs
+
+mul-t27 : tie.Need-mul-t27 Inv-loop μ-loop
+mul-t27 c = search needs
+
+array-read-t30 : tie.Need-array-read-t30 Inv-loop μ-loop
+array-read-t30 c = search needs
+
+returns-2 : tie.Need-returns-2 Inv-loop μ-loop
+returns-2 c =
+    let l = c .before .before in
+    let s = l .before .before in
+    finishes _ _ _ _ _ _ _ _ _ (s .pre .0) (c .before .loop-test .left) (s .pre .1) (c .cost-of .ensures) (l .loop .inv)
+
+pub check-gates-spec : {M : Type 1} → statement M
+check-gates-spec =
+    tie.close
+    (tie.spec
+    Inv-loop
+    μ-loop
+    sub-last
+    loop-holds
+    add-at
+    mul-at
+    sub-read-gate
+    part-read-gate-start
+    part-read-gate-end
+    array-share-prefix-depths
+    slice-aggregate-read-gate
+    read-gate-requires
+    enum-known-depth
+    mul-depths
+    array-write-depths
+    add-products
+    add-squares
+    enum-known-why
+    returns
+    add-k
+    loop-less
+    loop-again
+    cast-t25
+    cost-of-requires
+    mul-t27
+    array-read-t30
+    returns-2)

@@ -1,0 +1,43 @@
+-- `table::sum_gate` meets its contract: at each return the tests on the way decide rule 17.
+-- Assumes nothing.
+use borrow.Author.Needs.{needs}
+use borrow.Author.Tests.{lt-ltb, le-ltb}
+use Rattle.table.proofs.sum_gate.Statement.{statement}
+use Rattle.table.proofs.sum_gate.Tie as tie
+
+returns : tie.Need-returns
+returns c = search (lt-ltb, le-ltb)
+
+returns-2 : tie.Need-returns-2
+returns-2 c = search (lt-ltb, le-ltb)
+
+mul-deeper : tie.Need-mul-deeper
+mul-deeper c = search needs
+
+shared-slice-read-deeper : tie.Need-shared-slice-read-deeper
+shared-slice-read-deeper c = search needs
+
+mul-deeper-2 : tie.Need-mul-deeper-2
+mul-deeper-2 c = search needs
+
+shared-slice-read-deeper-2 : tie.Need-shared-slice-read-deeper-2
+shared-slice-read-deeper-2 c = search needs
+
+deeper-requires : tie.Need-deeper-requires
+deeper-requires c κs = search needs
+
+returns-3 : tie.Need-returns-3
+returns-3 c = rw (lt-ltb _ _ (c .before .before .before .before .if1 .left), lt-ltb _ _ (c .before .before .before .if2 .left), c .deeper .ensures)
+
+pub sum-gate-spec : {M : Type 1} → statement M
+sum-gate-spec =
+    tie.close
+    (tie.spec
+    returns
+    returns-2
+    mul-deeper
+    shared-slice-read-deeper
+    mul-deeper-2
+    shared-slice-read-deeper-2
+    deeper-requires
+    returns-3)

@@ -1,0 +1,4 @@
+-- What the functions over a gate table mean.
+pub mod Parts
+pub mod Adding
+pub mod Reporting
