@@ -28,6 +28,12 @@ pub answered : {A B : Type 0} {b : B} (first : Answer A) (later : A → Answer B
 answered (refused k) later e = absurd (refused≢accepted e)
 answered (accepted a) later e = (a, refl, e)
 
+-- a refusal of what refuses nothing itself was the first answer's
+pub was-refused : {A B : Type 0} (n : ℕ) (first : Answer A) (later : A → B) → refused n ≡ onAnswer first refused (λ a. accepted (later a))
+    → first ≡ refused n
+was-refused n (refused m) later e = let same : m ≡ n = cc in ap refused same
+was-refused n (accepted a) later e = absurd (refused≢accepted e)
+
 -- what follows an answer may be replaced by what is the same for every value
 pub onAnswer-same : {A R : Type 0} (first : Answer A) (refusal : ℕ → R) {f g : A → R} → ((a : A) → f a ≡ g a)
     → onAnswer first refusal f ≡ onAnswer first refusal g

@@ -79,6 +79,16 @@ one-fits head k (Scale a b) h = rw (lt-ltb a k (h .0)) (h .1)
 one-fits head k (Flip a) h = lt-ltb _ _ h
 one-fits head k (Mul a b) h = two-fit a b k h
 
+-- and back
+pub fitted : (head : Head) (k : ℕ) (g : Gate) → fits head k g ≡ true → Fitted head k g
+fitted head k (Left a) t = ltb-true a (leftSlots head) t
+fitted head k (Right a) t = ltb-true a (rightSlots head) t
+fitted head k (Add a b) t = two-below a b k t
+fitted head k (Sub a b) t = two-below a b k t
+fitted head k (Scale a b) t = let s = both (ltb a k) (isConstant (head .prime) b) t in (ltb-true a k (s .0), s .1)
+fitted head k (Flip a) t = ltb-true a k t
+fitted head k (Mul a b) t = two-below a b k t
+
 pub all-fit : (head : Head) (k : ℕ) (gs : List Gate) → AllFitted head k gs → allFit head k gs ≡ true
 unfolding allFit
 all-fit head k [] h = refl

@@ -138,6 +138,16 @@ gate-bytes head k bytes g l h s =
     let b = u16-bytes bytes 6 (fields g .b) h (s .b) in
     eight bytes l ∙ rw (s .mark .0, s .mark .1, s .spare, s .kind, a .0, a .1, b .0, b .1)
 
+-- the first gate as it was read, and the others
+pub gates-read : (head : Head) (k count : ℕ) (bytes : List ℕ) (gs : List Gate) → readGates head k (suc count) bytes ≡ accepted gs
+    → (g : Gate) × (later : List Gate) × (gs ≡ g ∷ later) × (readGate head k bytes ≡ accepted g)
+    × (readGates head (suc k) count (drop 8 bytes) ≡ accepted later)
+unfolding readGates
+gates-read head k count bytes gs e =
+    let first = answered (readGate head k bytes) _ e in
+    let others = answered (readGates head (suc k) count (drop 8 bytes)) _ (first .2) in
+    (first .0, others .0, sym (accepted-same (others .2)), first .1, others .1)
+
 -- the first gate, and the others
 pub gates-cons : (head : Head) (k count : ℕ) (bytes : List ℕ) (gs : List Gate) → readGates head k (suc count) bytes ≡ accepted gs
     → (g : Gate) × (later : List Gate) × (gs ≡ g ∷ later) × Says head k bytes g × (readGates head (suc k) count (drop 8 bytes) ≡ accepted later)

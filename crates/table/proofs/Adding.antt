@@ -3,17 +3,27 @@
 use mathlib.Core.Path.{_≡_, refl, sym, ap, _∙_}
 use mathlib.Core.Bool.{Bool, true, false, not, _&&_}
 use mathlib.Core.List.{List}
-use Prim.Native.Nat.{ℕ}
+use Prim.Native.Nat.{ℕ, suc}
 use borrow.Author.Tests.{eq-eqb}
 use lib.Dec.{ltb, eqb}
 use lib.ListN.{length, getD}
 use Rattle.answer.specs.Outcome.{Answer, refused, accepted, refuse}
+use Rattle.answer.proofs.Outcome.{refused≢accepted, accepted-same}
 use Rattle.circuit.specs.Constant.{isConstant}
 use Rattle.circuit.specs.Gate.{Gate, Left, Right, Add, Sub, Scale, Flip, Mul}
 use Rattle.circuit.specs.Reading.{readFields}
 use Rattle.circuit.specs.Table.{Head, leftSlots, rightSlots}
 use Rattle.table.specs.Adding.{Addition, addition, linear, isEarlier, deeperOf, multiplied, operands, adding}
 use Rattle.table.proofs.NoKind.{NoKind, no-kind}
+
+-- a gate is added where its operands fit, and refused with any addition where they do not
+pub fitted : (fit : Bool) (x y : Addition) → accepted y ≡ operands fit x → (fit ≡ true) × (y ≡ x)
+fitted true x y e = (refl, accepted-same e)
+fitted false x y e = absurd (refused≢accepted (sym e))
+
+pub unfit : (fit : Bool) (x z : Addition) (n : ℕ) → refused n ≡ operands fit x → refused n ≡ operands fit z
+unfit true x z n e = absurd (refused≢accepted e)
+unfit false x z n e = cc
 
 -- a gate that was tested
 tested : (fit : Bool) (earlier : List ℕ) (g : Gate) → operands fit (addition earlier g) ≡ adding earlier (refuse (not fit) (refused 17) (accepted g))
@@ -52,7 +62,7 @@ module _ (head : Head) (earlier : List ℕ) (a b : ℕ) where
   pub flip-adds : operands (isEarlier earlier a && eqb b 0) (linear (getD earlier a 0)) ≡ ofKind 6
   flip-adds = tested (isEarlier earlier a && eqb b 0) earlier (Flip a)
 
-  pub mul-adds : operands (isEarlier earlier a && isEarlier earlier b) (multiplied a b (deeperOf earlier a b)) ≡ ofKind 7
+  pub mul-adds : operands (isEarlier earlier a && isEarlier earlier b) (multiplied a b (suc (deeperOf earlier a b))) ≡ ofKind 7
   mul-adds = tested-both (isEarlier earlier a && isEarlier earlier b) b earlier (Mul a b)
 
   -- "16 kind"

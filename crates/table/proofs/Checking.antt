@@ -7,11 +7,11 @@ use native.Mathlib.Omega.{arith}
 use native.Mathlib.Decide.{decLt}
 use native.Mathlib.Nat.{add-zero, sub-zero}
 use native.Mathlib.Numerals.{add-one}
-use lib.ListN.{length, take, drop, getD, set, length-append, length-drop, length-set, List·getD-append}
-use lib.Seq.{take-all, take-suc-set, drop-drop, length-take-le, getD-take, getD-append-add}
+use lib.ListN.{length, take, drop, getD, set, length-append, length-set, List·getD-append}
+use lib.Seq.{take-suc-set, length-take-le, getD-take, getD-append-add}
 use Rattle.answer.specs.Outcome.{Answer, refused, accepted}
 use Rattle.answer.specs.Report.{Report}
-use Rattle.answer.proofs.Outcome.{refused≢accepted, answered, accepted-same}
+use Rattle.answer.proofs.Outcome.{answered, was-refused, accepted-same}
 use Rattle.circuit.specs.Count.{isMul, count}
 use Rattle.circuit.specs.Meaning.{interpret}
 use Rattle.circuit.specs.Gate.{Gate, fields}
@@ -22,13 +22,9 @@ use Rattle.circuit.proofs.Fitting.{named}
 use Rattle.circuit.proofs.Reading.{says}
 use Rattle.table.specs.Adding.{Addition, addition, adding, AreLow}
 use Rattle.table.specs.Reporting.{reporting}
+use Rattle.table.proofs.Records.{recordAt, lentAt, lent-is, next-record, one-less}
 use Rattle.table.proofs.Reporting.{tallying, none-yet, deepened, turn, stops, ends}
 use lib.Dec.{eqb}
-
--- a refusal was the gate's
-pub gate-refused : (n : ℕ) (earlier : List ℕ) (read : Answer Gate) → refused n ≡ adding earlier read → read ≡ refused n
-gate-refused n earlier (refused m) e = let same : m ≡ n = cc in ap refused same
-gate-refused n earlier (accepted g) e = absurd (refused≢accepted e)
 
 -- the depths, with one more that is no deeper than its number
 low-more : (earlier : List ℕ) (d : ℕ) → AreLow earlier → length earlier < mostGates → d ≤ length earlier → AreLow (earlier ++ (d ∷ []))
@@ -47,22 +43,13 @@ low-more earlier d low room h = (rw length-append (omega arith), each)
     each : (i : ℕ) → getD (earlier ++ (d ∷ [])) i 0 ≤ i
     each i = go i (decLt i (length earlier))
 
--- the part of a table from a place on
-pub rest-of : (table : List ℕ) (n : ℕ) → take (length table - n) (drop n table) ≡ drop n table
-rest-of table n = take-all (length table - n) (drop n table) (rw length-drop (omega arith))
-
--- the record after the one that is read
-pub next-record : (table : List ℕ) (k : ℕ) → drop 8 (drop (8 * (k + 1)) table) ≡ drop (8 * (k + 1 + 1)) table
-next-record table k =
-    let size : 8 * (k + 1) + 8 ≡ 8 * (k + 1 + 1) = omega arith in drop-drop 8 (8 * (k + 1)) table ∙ ap (λ (n : ℕ). drop n table) size
-
 -- what is known between two turns: k records of count are read
 pub record Checks (head : Head) (table : List ℕ) (count k : ℕ) (depths : List ℕ) (m q : ℕ) (whole : Answer Report) : Type 0 where
   pub most : k ≤ count
   pub long : length depths ≡ mostGates
   pub few : m + q ≤ k
   pub low : AreLow (take k depths)
-  pub goes : tallying head (take k depths) m q (readGates head k (count - k) (drop (8 * (k + 1)) table)) ≡ whole
+  pub goes : tallying head (take k depths) m q (readGates head k (count - k) (recordAt table k)) ≡ whole
 
 pub starts : (head : Head) (table : List ℕ) (count : ℕ) (depths : List ℕ) → length depths ≡ mostGates
     → Checks head table count 0 depths 0 0 (reporting head (readGates head 0 count (drop 8 table)))
@@ -85,7 +72,7 @@ finishes head table n k depths m q cost whole some most small e c =
     let size : length (take k depths) ≡ n = length-take-le k depths (omega (arith, c .long)) ∙ all in
     let deep : getD (take k depths) (n - 1) 0 ≡ getD depths (n - 1) 0 = getD-take k depths (n - 1) 0 (omega arith) in
     ap accepted (rw (e, ← deep) (rw (size, add-zero n, add-zero m, add-zero q)))
-    ∙ sym (ends head k (drop (8 * (k + 1)) table) (take k depths) m q) ∙ rw none at (c .goes)
+    ∙ sym (ends head k (recordAt table k) (take k depths) m q) ∙ rw none at (c .goes)
 
 module _ (head : Head) (table : List ℕ) (count k : ℕ) (depths : List ℕ) (m q : ℕ) (whole : Answer Report)
     (l : k < count) (h : count ≤ mostGates) (c : Checks head table count k depths m q whole) where
@@ -94,22 +81,19 @@ module _ (head : Head) (table : List ℕ) (count k : ℕ) (depths : List ℕ) (m
 
   -- the answer on the record, read as the rest of the table from it on
   abbrev told : Answer Gate
-  told = readGate head (length (take k depths)) (take (length table - 8 * (k + 1)) (drop (8 * (k + 1)) table))
+  told = readGate head (length (take k depths)) (lentAt table k)
 
-  told-is : told ≡ readGate head k (drop (8 * (k + 1)) table)
-  told-is = rw (size, rest-of table (8 * (k + 1)))
-
-  left : count - k ≡ suc (count - (k + 1))
-  left = omega arith
+  told-is : told ≡ readGate head k (recordAt table k)
+  told-is = rw (size, lent-is table k)
 
   pub refuses : (n : ℕ) → refused n ≡ adding (take k depths) told → refused n ≡ whole
   refuses n e =
-      let gate = sym told-is ∙ gate-refused n (take k depths) told e in
-      sym (stops head k (count - (k + 1)) (drop (8 * (k + 1)) table) (take k depths) m q n gate)
-      ∙ ap (λ (i : ℕ). tallying head (take k depths) m q (readGates head k i (drop (8 * (k + 1)) table))) (sym left) ∙ c .goes
+      let gate = sym told-is ∙ was-refused n told (addition (take k depths)) e in
+      sym (stops head k (count - (k + 1)) (recordAt table k) (take k depths) m q n gate)
+      ∙ ap (λ (i : ℕ). tallying head (take k depths) m q (readGates head k i (recordAt table k))) (sym (one-less count k l)) ∙ c .goes
 
   -- a gate that is read
-  module _ (g : Gate) (e : readGate head k (drop (8 * (k + 1)) table) ≡ accepted g) where
+  module _ (g : Gate) (e : readGate head k (recordAt table k) ≡ accepted g) where
     abbrev added : Addition
     added = addition (take k depths) g
 
@@ -118,13 +102,13 @@ module _ (head : Head) (table : List ℕ) (count k : ℕ) (depths : List ℕ) (m
 
     below : added .depth ≤ k
     below =
-        let fit = named head k g (says head k (drop (8 * (k + 1)) table) g e .fitted) in
+        let fit = named head k g (says head k (recordAt table k) g e .fitted) in
         depth-below (λ i. getD (take k depths) i 0) k (λ i h. c .low .1 i) g fit
 
     going : tallying head (deepened (take k depths) g) (m + added .products) (q + added .squares)
-        (readGates head (k + 1) (count - (k + 1)) (drop 8 (drop (8 * (k + 1)) table))) ≡ whole
+        (readGates head (k + 1) (count - (k + 1)) (drop 8 (recordAt table k))) ≡ whole
     going =
-        sym (turn head k (count - (k + 1)) (drop (8 * (k + 1)) table) (take k depths) m q g e) ∙ rw left at (c .goes)
+        sym (turn head k (count - (k + 1)) (recordAt table k) (take k depths) m q g e) ∙ rw (one-less count k l) at (c .goes)
 
     one-more : Checks head table count (k + 1) (set depths k (added .depth)) (m + added .products) (q + added .squares) whole
     one-more = record {
@@ -132,7 +116,7 @@ module _ (head : Head) (table : List ℕ) (count k : ℕ) (depths : List ℕ) (m
       long = simp length-set (c .long);
       few = omega (arith, c .few, one-at-most (isMul g) (eqb (fields g .a) (fields g .b)));
       low = rw more (low-more (take k depths) (added .depth) (c .low) (omega (arith, size)) (omega (arith, size, below)));
-      goes = rw (more, ← next-record table k) going;
+      goes = rw (more, next-record table k) going;
     }
 
   pub adds : (d p s : ℕ) → accepted (record { depth = d; products = p; squares = s }) ≡ adding (take k depths) told

@@ -1,6 +1,8 @@
 -- Laws that the proofs of the functions share.
 pub mod NoKind
 pub mod Adding
+pub mod Records
 pub mod Reporting
 pub mod Checking
 pub mod Outcomes
+pub mod Running

@@ -40,9 +40,9 @@ isEarlier earlier a = ltb a (length earlier)
 abbrev pub deeperOf : List ℕ → ℕ → ℕ → ℕ
 deeperOf earlier a b = max (getD earlier a 0) (getD earlier b 0)
 
--- a MUL over a and b, from the depth of the deeper operand
+-- a MUL over a and b
 abbrev pub multiplied : ℕ → ℕ → ℕ → Addition
-multiplied a b deeper = record { depth = suc deeper; products = bit (not (eqb a b)); squares = bit (eqb a b) }
+multiplied a b depth = record { depth = depth; products = bit (not (eqb a b)); squares = bit (eqb a b) }
 
 -- "17 an operand against its kind", or what the gate adds
 abbrev pub operands : Bool → Addition → Answer Addition

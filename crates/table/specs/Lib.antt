@@ -2,3 +2,4 @@
 pub mod Parts
 pub mod Adding
 pub mod Reporting
+pub mod Running

@@ -1,4 +1,4 @@
-// Gate tables: Check and Trim.
+// Gate tables: Check, Trim and Run.
 use answer::Cost;
 use answer::Depth;
 use answer::Refusal;
@@ -6,16 +6,20 @@ use answer::Report;
 use answer::Reported;
 ghost use mathlib.Core.Path.{_≡_};
 ghost use mathlib.Core.Bool.{_&&_, _||_};
-ghost use Prim.Native.Nat.{_+_, _*_, _≤_, _<_, max};
+ghost use mathlib.Core.List.{_++_};
+ghost use Prim.Native.Nat.{suc, _+_, _*_, _≤_, _<_, max};
 ghost use lib.Dec.{ltb, eqb};
 ghost use lib.ListN.{length, drop, getD};
+ghost use Rattle.answer.specs.Outcome.{accepted};
 ghost use Rattle.answer.specs.Report.{reportAnswer};
 ghost use Rattle.circuit.specs.Bytes.{wrongMark, u16At};
 ghost use Rattle.circuit.specs.Constant.{isConstant};
-ghost use Rattle.circuit.specs.Outcomes.{checking, trimming};
-ghost use Rattle.circuit.specs.Reading.{readFields, readGate, readGates, headOf, readHead};
+ghost use Rattle.circuit.specs.Outcomes.{checking, trimming, running};
+ghost use Rattle.circuit.specs.Reading.{readFields, readGate, readGates, headOf, readHead, reading};
+ghost use Rattle.circuit.specs.Value.{values};
 ghost use Rattle.table.specs.Parts.{markOf, headIs, headAnswer};
 ghost use Rattle.table.specs.Reporting.{reporting};
+ghost use Rattle.table.specs.Running.{CanRun, valueIn, valuesIn, gatesRead, runAnswer};
 ghost use Rattle.table.specs.Adding.{linear, isEarlier, deeperOf, multiplied, operands, adding, AreLow, addedAnswer};
 
 // The marks of a head and of a gate.
@@ -28,6 +32,12 @@ const RECORD: usize = 8;
 
 // The most gates of a table.
 const MOST_GATES: usize = 8191;
+
+// What Run answers.
+pub enum Ran {
+    Output(u8),
+    Refused(Refusal),
+}
 
 // The prime, the weight of a square and the slot count.
 struct TableHead {
@@ -120,7 +130,7 @@ fn read_head(table: &[u8]) -> HeadRead
     if outside(wide(head.slots), 1, digits::MOST_DIGITS) {
         return HeadRead::Refused(Refusal::SlotCount);
     }
-    if spare != 0 {
+    if outside(wide(spare), 0, 0) {
         return HeadRead::Refused(Refusal::SpareNotZero);
     }
     if outside(count, 1, MOST_GATES) {
@@ -206,18 +216,10 @@ fn flip_gate(a: usize, b: usize, earlier: &[u16]) -> Added
     }
 }
 
-// MUL.
-fn mul_gate(a: usize, b: usize, earlier: &[u16]) -> Added
-    requires { ⌜ AreLow (now earlier) ⌝ }
-    ensures { λ r. ⌜ addedAnswer r ≡ operands (isEarlier (now (earlier .entry)) a && isEarlier (now (earlier .entry)) b) (multiplied a b (deeperOf (now (earlier .entry)) a b)) ⌝ }
+// A product or a square at a depth.
+fn product_at(depth: u16, a: usize, b: usize) -> Added
+    ensures { λ r. ⌜ addedAnswer r ≡ accepted (multiplied a b depth) ⌝ }
 {
-    if earlier.len() <= a {
-        return Added::Refused(Refusal::WrongOperand);
-    }
-    if earlier.len() <= b {
-        return Added::Refused(Refusal::WrongOperand);
-    }
-    let depth = deeper(earlier[a], earlier[b]) + 1;
     if a == b {
         return Added::Counted {
             depth,
@@ -229,6 +231,21 @@ fn mul_gate(a: usize, b: usize, earlier: &[u16]) -> Added
         depth,
         products: 1,
         squares: 0,
+    }
+}
+
+// MUL: one level more than a sum over the same gates.
+fn mul_gate(a: usize, b: usize, earlier: &[u16]) -> Added
+    requires { ⌜ AreLow (now earlier) ⌝ }
+    ensures { λ r. ⌜ addedAnswer r ≡ operands (isEarlier (now (earlier .entry)) a && isEarlier (now (earlier .entry)) b) (multiplied a b (suc (deeperOf (now (earlier .entry)) a b))) ⌝ }
+{
+    match sum_gate(a, b, earlier) {
+        Added::Counted {
+            depth,
+            products: _,
+            squares: _,
+        } => product_at(depth + 1, a, b),
+        Added::Refused(why) => Added::Refused(why),
     }
 }
 
@@ -325,5 +342,109 @@ pub fn trim(table: &[u8]) -> &[u8]
             &table[..end]
         }
         Reported::Refused(_) => &table[..0],
+    }
+}
+
+// The value of a gate that comes after others, whose values are given.
+fn value_of(
+    kind: u8,
+    a: usize,
+    b: usize,
+    head: TableHead,
+    left: &[u8],
+    right: &[u8],
+    earlier: &[u8],
+) -> u8
+    requires { ⌜ CanRun (headIs head) (now left) (now right) (readFields (headIs head) (length (now earlier)) kind a b) ⌝ }
+    ensures { λ r. ⌜ r ≡ valueIn (values (head .prime) (now (left .entry)) (now (right .entry))) (now (earlier .entry)) (readFields (headIs head) (length (now (earlier .entry))) kind a b) ⌝ }
+{
+    let prime = head.prime;
+    match kind {
+        1 => left[a],
+        2 => right[a],
+        3 => field::add_mod(earlier[a], earlier[b], prime),
+        4 => field::sub_mod(earlier[a], earlier[b], prime),
+        5 => field::mul_mod(earlier[a], b as u8, prime),
+        6 => field::sub_mod(1, earlier[a], prime),
+        7 => field::mul_mod(earlier[a], earlier[b], prime),
+        _ => 0,
+    }
+}
+
+// The value of the gate whose record the bytes begin with.
+fn value_at(bytes: &[u8], head: TableHead, left: &[u8], right: &[u8], earlier: &[u8]) -> u8
+    requires { ⌜ (8 ≤ length (now bytes)) × CanRun (headIs head) (now left) (now right) (readGate (headIs head) (length (now earlier)) (now bytes)) ⌝ }
+    ensures { λ r. ⌜ r ≡ valueIn (values (head .prime) (now (left .entry)) (now (right .entry))) (now (earlier .entry)) (readGate (headIs head) (length (now (earlier .entry))) (now (bytes .entry))) ⌝ }
+{
+    value_of(
+        bytes[2],
+        u16_at(bytes, 4),
+        u16_at(bytes, 6),
+        head,
+        left,
+        right,
+        earlier,
+    )
+}
+
+// Puts the values of the gates at the start of work.
+fn run_gates(
+    table: &[u8],
+    head: TableHead,
+    gates: usize,
+    left: &[u8],
+    right: &[u8],
+    work: &mut [u8],
+)
+    requires { ⌜ (8 * (gates + 1) ≤ length (now table)) × (gates ≤ length (now work)) × CanRun (headIs head) (now left) (now right) (readGates (headIs head) 0 gates (drop 8 (now table))) ⌝ }
+    ensures { λ _. ⌜ now (work .exit) ≡ valuesIn (values (head .prime) (now (left .entry)) (now (right .entry))) (readGates (headIs head) 0 gates (drop 8 (now (table .entry)))) ++ drop gates (now (work .entry)) ⌝ }
+{
+    let mut k = 0;
+    while k < gates {
+        let at = RECORD * (k + 1);
+        let value = value_at(&table[at..], head, left, right, &work[..k]);
+        work[k] = value;
+        k += 1;
+    }
+}
+
+// Run on a table of count gates that Check accepts.
+fn run_checked(table: &[u8], count: usize, left: &[u8], right: &[u8], work: &mut [u8]) -> Ran
+    requires { ⌜ gatesRead (reading (now table)) ≡ accepted count ⌝ }
+    ensures answers { λ r. ⌜ runAnswer r ≡ running (now (table .entry)) (now (left .entry)) (now (right .entry)) (now (work .entry)) .answer ⌝ }
+    ensures leaves { λ r. ⌜ now (work .exit) ≡ running (now (table .entry)) (now (left .entry)) (now (right .entry)) (now (work .entry)) .lent ⌝ }
+{
+    let head = head_at(table);
+    let slots = wide(head.slots);
+    let prime = wide(head.prime) as u64;
+    if left.len() != slots {
+        return Ran::Refused(Refusal::ListLength);
+    }
+    if right.len() != slots {
+        return Ran::Refused(Refusal::ListLength);
+    }
+    if !digits::are_below(left, prime) {
+        return Ran::Refused(Refusal::ValueTooLarge);
+    }
+    if !digits::are_below(right, prime) {
+        return Ran::Refused(Refusal::ValueTooLarge);
+    }
+    if work.len() < count {
+        return Ran::Refused(Refusal::WorkBufferTooSmall);
+    }
+    run_gates(table, head, count, left, right, work);
+    let output = work[count - 1];
+    Ran::Output(output)
+}
+
+// The values of all gates at the start of work and the last of them as the answer, or a refusal,
+// which leaves work as it is.
+pub fn run(table: &[u8], left: &[u8], right: &[u8], work: &mut [u8]) -> Ran
+    ensures answers { λ r. ⌜ runAnswer r ≡ running (now (table .entry)) (now (left .entry)) (now (right .entry)) (now (work .entry)) .answer ⌝ }
+    ensures leaves { λ r. ⌜ now (work .exit) ≡ running (now (table .entry)) (now (left .entry)) (now (right .entry)) (now (work .entry)) .lent ⌝ }
+{
+    match check(table) {
+        Reported::Success(told) => run_checked(table, told.gates as usize, left, right, work),
+        Reported::Refused(why) => Ran::Refused(why),
     }
 }

@@ -2,16 +2,17 @@
 -- The measure is what is left of count.
 -- Assumes nothing.
 use mathlib.Core.Path.{refl, sym, ap, _∙_}
-use Prim.Native.Nat.{_+_, _-_}
+use Prim.Native.Nat.{_+_, _-_, _<_}
 use native.Mathlib.Omega.{arith}
 use borrow.Author.Needs.{needs}
-use lib.ListN.{drop, set, length-drop}
+use lib.ListN.{drop, set}
 use lib.Seq.{length-take-le}
 use Rattle.circuit.specs.Reading.{readGates}
 use Rattle.table.specs.Adding.{addedAnswer}
 use Rattle.table.specs.Parts.{headIs}
 use Rattle.table.specs.Reporting.{reporting}
-use Rattle.table.proofs.Checking.{Checks, starts, finishes, rest-of, refuses, adds}
+use Rattle.table.proofs.Checking.{Checks, starts, finishes, refuses, adds}
+use Rattle.table.proofs.Records.{lent-long}
 use Rattle.table.proofs.check_gates.Statement.{statement}
 use Rattle.table.proofs.check_gates.Tie as tie
 
@@ -53,7 +54,7 @@ slice-aggregate-read-gate c =
 read-gate-requires : tie.Need-read-gate-requires Inv-loop μ-loop
 read-gate-requires c κs =
     let l = c .before .before .before in
-    (rw rest-of (simp length-drop (omega arith)), l .loop .inv .low)
+    (lent-long (l .before .before .args .table .now) (l .before .before .args .count) (l .loop .k) (omega arith) (omega arith), l .loop .inv .low)
 
 enum-known-depth : tie.Need-enum-known-depth Inv-loop μ-loop
 enum-known-depth c = search needs
@@ -75,7 +76,8 @@ after c =
     let r = c .before .before .before in
     let l = r .before .before .before .before in
     let s = l .before .before in
-    adds _ _ _ _ _ _ _ _ (r .before .before .before .loop-test .taken) (s .pre .1) (l .loop .inv) _ _ _
+    let less : l .loop .k < s .args .count = omega (arith, r .before .before .before .loop-test .taken) in
+    adds _ _ _ _ _ _ _ _ less (s .pre .1) (l .loop .inv) _ _ _
     (sym (ap addedAnswer (c .before .depth .given .1)) ∙ r .read-gate .ensures)
 
 add-products : tie.Need-add-products Inv-loop μ-loop
@@ -92,7 +94,8 @@ returns c =
     let r = c .before .before .before in
     let l = r .before .before .before .before in
     let s = l .before .before in
-    refuses _ _ _ _ _ _ _ _ (r .before .before .before .loop-test .taken) (s .pre .1) (l .loop .inv) _
+    let less : l .loop .k < s .args .count = omega (arith, r .before .before .before .loop-test .taken) in
+    refuses _ _ _ _ _ _ _ _ less (s .pre .1) (l .loop .inv) _
     (sym (ap addedAnswer (c .before .why .given .1)) ∙ r .read-gate .ensures)
 
 add-k : tie.Need-add-k Inv-loop μ-loop

@@ -1,59 +1,72 @@
--- `table::mul_gate` meets its contract: at each return the tests on the way decide rule 17. No operand is deeper than its number, which is below 8191, so one level more fits 16 bits.
+-- `table::mul_gate` meets its contract: where a sum over the two gates is added, so is a MUL, one level deeper. No operand is deeper than its number, which is below 8191, so the level fits 16 bits.
 -- Assumes nothing.
-use borrow.Author.Needs.{needs}
-use borrow.Author.Tests.{eq-eqb, ne-eqb, lt-ltb, le-ltb}
+use mathlib.Core.Path.{_≡_, sym, ap, _∙_}
+use mathlib.Core.Bool.{Bool, true, _&&_}
+use mathlib.Core.List.{List}
+use Prim.Native.Nat.{ℕ}
 use native.Mathlib.Omega.{arith}
 use native.Mathlib.Numerals.{add-one}
+use borrow.Author.Needs.{needs}
+use Rattle.circuit.proofs.Fitting.{two-below}
+use Rattle.table.specs.Adding.{linear, isEarlier, deeperOf, addedAnswer}
+use Rattle.table.proofs.Adding.{fitted, unfit}
 use Rattle.table.proofs.mul_gate.Statement.{statement}
 use Rattle.table.proofs.mul_gate.Tie as tie
 
+abbrev earlier : tie.After-sum-gate → List ℕ
+earlier c = c .before .before .args .earlier .now
+
+-- the two operands are earlier gates
+abbrev fit : tie.After-sum-gate → Bool
+fit c = isEarlier (earlier c) (c .before .before .args .a) && isEarlier (earlier c) (c .before .before .args .b)
+
+abbrev deep : tie.After-sum-gate → ℕ
+deep c = deeperOf (earlier c) (c .before .before .args .a) (c .before .before .args .b)
+
+-- the operands fit, and the depth is that of the deeper one
+told : (c : tie.After-depth) → (fit (c .before .before) ≡ true) × (c .depth .given .0 .0 ≡ deep (c .before .before))
+told c =
+    let s = c .before .before in
+    let f = fitted (fit s) (linear (deep s)) _ (sym (ap addedAnswer (c .depth .given .1)) ∙ s .sum-gate .ensures) in
+    (f .0, ap (λ x. x .depth) (f .1))
+
+sum-gate-requires : tie.Need-sum-gate-requires
+sum-gate-requires c κs = search needs
+
+enum-known-depth : tie.Need-enum-known-depth
+enum-known-depth c = search needs
+
+add-product-at : tie.Need-add-product-at
+add-product-at c =
+    let s = c .before .before .before .before .before in
+    let t = told (c .before) in
+    let l = two-below (s .args .a) (s .args .b) _ (t .0) in
+    omega (arith, t .1, l, s .pre .0, s .pre .1 (s .args .a), s .pre .1 (s .args .b))
+
+product-at-requires : tie.Need-product-at-requires
+product-at-requires c κs = search needs
+
+enum-known-why : tie.Need-enum-known-why
+enum-known-why c = search needs
+
 returns : tie.Need-returns
-returns c = search (lt-ltb, le-ltb)
+returns c =
+    let t = told (c .before .before) in
+    rw (t .0) (c .product-at .ensures ∙ rw (t .1, add-one))
 
 returns-2 : tie.Need-returns-2
-returns-2 c = search (lt-ltb, le-ltb)
-
-mul-deeper : tie.Need-mul-deeper
-mul-deeper c = search needs
-
-shared-slice-read-deeper : tie.Need-shared-slice-read-deeper
-shared-slice-read-deeper c = search needs
-
-mul-deeper-2 : tie.Need-mul-deeper-2
-mul-deeper-2 c = search needs
-
-shared-slice-read-deeper-2 : tie.Need-shared-slice-read-deeper-2
-shared-slice-read-deeper-2 c = search needs
-
-deeper-requires : tie.Need-deeper-requires
-deeper-requires c κs = search needs
-
-add-depth : tie.Need-add-depth
-add-depth c =
-    let s = c .before .before .before .before .before .before in
-    omega (arith, c .deeper .ensures, s .pre .1 (s .args .a), s .pre .1 (s .args .b))
-
-returns-3 : tie.Need-returns-3
-returns-3 c =
-    let e = c .before .before .before .before in
-    rw (lt-ltb _ _ (e .before .if1 .left), lt-ltb _ _ (e .if2 .left), eq-eqb _ _ (c .if3 .taken), c .before .deeper .ensures, add-one)
-
-returns-4 : tie.Need-returns-4
-returns-4 c =
-    let e = c .before .before .before .before in
-    rw (lt-ltb _ _ (e .before .if1 .left), lt-ltb _ _ (e .if2 .left), ne-eqb _ _ (c .if3 .left), c .before .deeper .ensures, add-one)
+returns-2 c =
+    let s = c .before .before .before in
+    unfit (fit s) (linear (deep s)) _ _ (sym (ap addedAnswer (c .before .why .given .1)) ∙ s .sum-gate .ensures)
 
 pub mul-gate-spec : {M : Type 1} → statement M
 mul-gate-spec =
     tie.close
     (tie.spec
+    sum-gate-requires
+    enum-known-depth
+    add-product-at
+    product-at-requires
+    enum-known-why
     returns
-    returns-2
-    mul-deeper
-    shared-slice-read-deeper
-    mul-deeper-2
-    shared-slice-read-deeper-2
-    deeper-requires
-    add-depth
-    returns-3
-    returns-4)
+    returns-2)

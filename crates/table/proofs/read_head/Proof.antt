@@ -1,11 +1,12 @@
 -- `table::read_head` meets its contract: at each return the tests on the way pick the line of `readHead`.
 -- Assumes nothing.
-use mathlib.Core.Path.{_≡_, sym, ap, _∙_}
-use mathlib.Core.Bool.{true, false}
+use mathlib.Core.Path.{_≡_, refl, sym, ap, _∙_}
+use mathlib.Core.Bool.{true, false, not, _||_}
 use mathlib.Core.List.{List}
-use Prim.Native.Nat.{ℕ}
+use Prim.Native.Nat.{ℕ, zero, suc, zero-le}
+use native.Mathlib.Omega.{arith}
 use borrow.Author.Needs.{needs}
-use borrow.Author.Tests.{not-true, not-false, lt-ltb, le-ltb, eq-eqb, ne-eqb}
+use borrow.Author.Tests.{ne-eqb, not-true, not-false, lt-ltb, le-ltb}
 use lib.Dec.{ltb, eqb}
 use lib.ListN.{length}
 use Rattle.field.specs.Primes.{listed}
@@ -32,8 +33,11 @@ third c = c .before .before .before
 abbrev fourth : tie.After-outside2 → tie.After-outside
 fourth c = c .before .before .before
 
-abbrev fifth : tie.Else6 → tie.After-outside2
-fifth c = c .before .before
+abbrev fifth : tie.After-outside3 → tie.After-outside2
+fifth c = c .before .before .before
+
+abbrev sixth : tie.After-outside4 → tie.After-outside3
+sixth c = c .before .before
 
 -- ---- what each test says of the bytes
 
@@ -57,12 +61,17 @@ slots c =
     ap (λ h. wrongCount (h .slots)) (sym (third (fourth c) .before .before .before .head-at .ensures))
     ∙ ap wrongCount (sym (c .before .wide2 .ensures .0)) ∙ sym (c .outside2 .ensures)
 
-spare : (c : tie.Else6) → eqb (byte (bytes (first (second (third (fourth (fifth c)))))) 5) 0 ≡ true
-spare c = eq-eqb _ _ (c .if6 .left)
+-- a number in the range from 0 to 0
+zero-only : (x : ℕ) → not (eqb x 0) ≡ (ltb x 0 || ltb 0 x)
+zero-only zero = refl
+zero-only (suc x) = rw (ne-eqb (suc x) 0 (λ e. omega arith), le-ltb (suc x) 0 zero-le, lt-ltb 0 (suc x) (omega arith))
 
-count : (c : tie.After-outside3) → wrongGateCount (countOf (bytes (first (second (third (fourth (fifth (c .before)))))))) ≡ c .outside3 .result
+spare : (c : tie.After-outside3) → not (eqb (byte (bytes (first (second (third (fourth (fifth c)))))) 5) 0) ≡ c .outside3 .result
+spare c = rw zero-only (sym (rw (c .before .wide3 .ensures .0) at (c .outside3 .ensures)))
+
+count : (c : tie.After-outside4) → wrongGateCount (countOf (bytes (first (second (third (fourth (fifth (sixth c)))))))) ≡ c .outside4 .result
 count c =
-    ap wrongGateCount (sym (third (fourth (fifth (c .before))) .before .u16-at .ensures .0)) ∙ sym (c .outside3 .ensures)
+    ap wrongGateCount (sym (third (fourth (fifth (sixth c))) .before .u16-at .ensures .0)) ∙ sym (c .outside4 .ensures)
 
 -- the first four rules are kept
 abbrev Kept : List ℕ → Type 0
@@ -125,19 +134,25 @@ returns-5 c =
 
 returns-6 : tie.Need-returns-6
 returns-6 c =
-    let e = c .before in
+    let e = c .before .before .before in
     let k = kept (e .before .before .before) in
-    rw (k .0, k .1, k .2, k .3, slots (e .before) ∙ e .if5 .left, ne-eqb _ _ (c .if6 .taken))
+    rw (k .0, k .1, k .2, k .3, slots (e .before) ∙ e .if5 .left, spare (c .before) ∙ c .if6 .taken)
+
+wide-requires-3 : tie.Need-wide-requires-3
+wide-requires-3 c κs = search needs
 
 outside-requires-3 : tie.Need-outside-requires-3
 outside-requires-3 c κs = search needs
 
+outside-requires-4 : tie.Need-outside-requires-4
+outside-requires-4 c κs = search needs
+
 returns-7 : tie.Need-returns-7
 returns-7 c =
     let f = c .before .before in
-    let e = f .before in
+    let e = f .before .before .before in
     let k = kept (e .before .before .before) in
-    rw (k .0, k .1, k .2, k .3, slots (e .before) ∙ e .if5 .left, spare f, count (c .before) ∙ c .if7 .taken)
+    rw (k .0, k .1, k .2, k .3, slots (e .before) ∙ e .if5 .left, spare (f .before) ∙ f .if6 .left, count (c .before) ∙ c .if7 .taken)
 
 add-if8 : tie.Need-add-if8
 add-if8 c = search needs
@@ -149,21 +164,21 @@ returns-8 : tie.Need-returns-8
 returns-8 c =
     let g = c .before in
     let f = g .before .before in
-    let e = f .before in
+    let e = f .before .before .before in
     let k = kept (e .before .before .before) in
     let short = lt-ltb _ _ (c .if8 .taken) in
-    rw (k .0, k .1, k .2, k .3, slots (e .before) ∙ e .if5 .left, spare f, count (g .before) ∙ g .if7 .left)
+    rw (k .0, k .1, k .2, k .3, slots (e .before) ∙ e .if5 .left, spare (f .before) ∙ f .if6 .left, count (g .before) ∙ g .if7 .left)
     (rw (← third (fourth (e .before)) .before .u16-at .ensures .0, short))
 
 returns-9 : tie.Need-returns-9
 returns-9 c =
     let g = c .before in
     let f = g .before .before in
-    let e = f .before in
+    let e = f .before .before .before in
     let k = kept (e .before .before .before) in
     let room = le-ltb _ _ (c .if8 .left) in
     let head = third (fourth (e .before)) .before .before .before .head-at .ensures in
-    rw (k .0, k .1, k .2, k .3, slots (e .before) ∙ e .if5 .left, spare f, count (g .before) ∙ g .if7 .left)
+    rw (k .0, k .1, k .2, k .3, slots (e .before) ∙ e .if5 .left, spare (f .before) ∙ f .if6 .left, count (g .before) ∙ g .if7 .left)
     (rw (← third (fourth (e .before)) .before .u16-at .ensures .0, room, head))
 
 pub read-head-spec : {M : Type 1} → statement M
@@ -184,8 +199,10 @@ read-head-spec =
     wide-requires-2
     outside-requires-2
     returns-5
-    returns-6
+    wide-requires-3
     outside-requires-3
+    returns-6
+    outside-requires-4
     returns-7
     add-if8
     mul-if8

@@ -1,11 +1,12 @@
 -- `table::slot_gate` meets its contract: at each return the tests on the way decide rule 17.
 -- Assumes nothing.
+use native.Mathlib.Omega.{arith}
 use borrow.Author.Tests.{eq-eqb, ne-eqb, lt-ltb, le-ltb}
 use Rattle.table.proofs.slot_gate.Statement.{statement}
 use Rattle.table.proofs.slot_gate.Tie as tie
 
 returns : tie.Need-returns
-returns c = search (le-ltb)
+returns c = let a = c .before .args in rw (le-ltb (a .a) (a .slots) (omega arith))
 
 returns-2 : tie.Need-returns-2
 returns-2 c = search (lt-ltb, ne-eqb)

@@ -1,15 +1,19 @@
 -- `table::sum_gate` meets its contract: at each return the tests on the way decide rule 17.
 -- Assumes nothing.
+use native.Mathlib.Omega.{arith}
 use borrow.Author.Needs.{needs}
 use borrow.Author.Tests.{lt-ltb, le-ltb}
+use lib.ListN.{length}
 use Rattle.table.proofs.sum_gate.Statement.{statement}
 use Rattle.table.proofs.sum_gate.Tie as tie
 
 returns : tie.Need-returns
-returns c = search (lt-ltb, le-ltb)
+returns c = search (le-ltb)
 
 returns-2 : tie.Need-returns-2
-returns-2 c = search (lt-ltb, le-ltb)
+returns-2 c =
+    let a = c .before .before .before .args in
+    rw (lt-ltb _ _ (c .before .if1 .left), le-ltb (a .b) (length (a .earlier .now)) (omega arith))
 
 mul-deeper : tie.Need-mul-deeper
 mul-deeper c = search needs

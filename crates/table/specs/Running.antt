@@ -1,0 +1,36 @@
+-- What Run's functions mean, and what Run answers (document 01, "Operations and what they turn away").
+use mathlib.Core.Path.{_≡_}
+use mathlib.Core.List.{List, []}
+use Prim.Native.Nat.{ℕ}
+use lib.ListN.{length}
+use Rattle.answer.specs.Numbers.{refusalNumber}
+use Rattle.answer.specs.Outcome.{Answer, refused, accepted, onAnswer}
+use Rattle.circuit.specs.Gate.{Gate}
+use Rattle.circuit.specs.Meaning.{Algebra, meaning, entryOf, entries}
+use Rattle.circuit.specs.Table.{Head, Table, leftSlots, rightSlots}
+use Rattle.table.specs.declared.Ran.{Ran}
+use Rattle.table.specs.declared.Ran.the-variants.{Output, Refused}
+
+-- what was read is accepted, and both lists have the length that 18 asks
+pub record CanRun {A : Type 0} (head : Head) (left right : List ℕ) (read : Answer A) : Type 0 where
+  pub value : A
+  pub accept : read ≡ accepted value
+  pub lefts : length left ≡ leftSlots head
+  pub rights : length right ≡ rightSlots head
+
+-- the value of a gate that was read, from those of the gates before it
+abbrev pub valueIn : Algebra ℕ → List ℕ → Answer Gate → ℕ
+valueIn alg earlier read = onAnswer read (λ number. 0) (meaning alg (entryOf alg earlier))
+
+-- the values of all gates that were read
+abbrev pub valuesIn : Algebra ℕ → Answer (List Gate) → List ℕ
+valuesIn alg read = onAnswer read (λ number. []) (entries alg)
+
+-- how many gates were read
+abbrev pub gatesRead : Answer Table → Answer ℕ
+gatesRead read = onAnswer read refused (λ table. accepted (length (table .gates)))
+
+-- the refusal's number, or the output, for each case of the enum
+abbrev pub runAnswer : Ran → Answer ℕ
+runAnswer (Output value) = accepted value
+runAnswer (Refused why) = refused (refusalNumber why)
