@@ -138,34 +138,25 @@ gate-bytes head k bytes g l h s =
     let b = u16-bytes bytes 6 (fields g .b) h (s .b) in
     eight bytes l ∙ rw (s .mark .0, s .mark .1, s .spare, s .kind, a .0, a .1, b .0, b .1)
 
--- the first gate as it was read, and the others
-pub gates-read : (head : Head) (k count : ℕ) (bytes : List ℕ) (gs : List Gate) → readGates head k (suc count) bytes ≡ accepted gs
-    → (g : Gate) × (later : List Gate) × (gs ≡ g ∷ later) × (readGate head k bytes ≡ accepted g)
-    × (readGates head (suc k) count (drop 8 bytes) ≡ accepted later)
-unfolding readGates
-gates-read head k count bytes gs e =
-    let first = answered (readGate head k bytes) _ e in
-    let others = answered (readGates head (suc k) count (drop 8 bytes)) _ (first .2) in
-    (first .0, others .0, sym (accepted-same (others .2)), first .1, others .1)
-
 -- the first gate, and the others
 pub gates-cons : (head : Head) (k count : ℕ) (bytes : List ℕ) (gs : List Gate) → readGates head k (suc count) bytes ≡ accepted gs
-    → (g : Gate) × (later : List Gate) × (gs ≡ g ∷ later) × Says head k bytes g × (readGates head (suc k) count (drop 8 bytes) ≡ accepted later)
+    → (g : Gate) × (later : List Gate) × (gs ≡ g ∷ later) × (readGate head k bytes ≡ accepted g)
+    × (readGates head (suc k) count (drop 8 bytes) ≡ accepted later)
 unfolding readGates
 gates-cons head k count bytes gs e =
     let first = answered (readGate head k bytes) _ e in
     let others = answered (readGates head (suc k) count (drop 8 bytes)) _ (first .2) in
-    (first .0, others .0, sym (accepted-same (others .2)), says head k bytes (first .0) (first .1), others .1)
+    (first .0, others .0, sym (accepted-same (others .2)), first .1, others .1)
 
 -- the gates that were read are as many as there should be, and each fits
-pub gates-fit : (head : Head) (k count : ℕ) (bytes : List ℕ) (gs : List Gate) → readGates head k count bytes ≡ accepted gs
+gates-fit : (head : Head) (k count : ℕ) (bytes : List ℕ) (gs : List Gate) → readGates head k count bytes ≡ accepted gs
     → (length gs ≡ count) × (allFit head k gs ≡ true)
 unfolding readGates allFit
 gates-fit head k zero bytes gs e = rw (← accepted-same e) (refl, refl)
 gates-fit head k (suc count) bytes gs e =
     let s = gates-cons head k count bytes gs e in
     let later = gates-fit head (suc k) count (drop 8 bytes) (s .1) (s .4) in
-    rw (s .2) (ap suc (later .0), rw (s .3 .fitted) (later .1))
+    rw (s .2) (ap suc (later .0), rw (says head k bytes (s .0) (s .3) .fitted) (later .1))
 
 -- and their bytes are those that were lent
 gates-bytes : (head : Head) (k count : ℕ) (bytes : List ℕ) (gs : List Gate) → 8 * count ≤ length bytes → allBelow 256 bytes ≡ true
@@ -178,7 +169,7 @@ gates-bytes head k (suc count) bytes gs l h e =
     let later = gates-bytes head (suc k) count (drop 8 bytes) (s .1) room (below-drop 256 bytes 8 h) (s .4) in
     let size : 8 * suc count ≡ 8 + 8 * count = omega arith in
     let end : drop (8 * count) (drop 8 bytes) ≡ drop (8 * suc count) bytes = rw size (drop-drop (8 * count) 8 bytes) in
-    gate-bytes head k bytes (s .0) (omega arith) h (s .3)
+    gate-bytes head k bytes (s .0) (omega arith) h (says head k bytes (s .0) (s .3))
     ∙ ap (λ (l : List ℕ). gateBytes (s .0) ++ l) later
     ∙ ap₂ (λ (gs : List Gate) (l : List ℕ). gatesBytes gs ++ l) (sym (s .2)) end
 

@@ -1,7 +1,7 @@
 -- What a gate of each kind adds: its rule, 17, and its depth and counts, as the definitions of reading and of the report give them.
 -- Assumes nothing.
-use mathlib.Core.Path.{_≡_, refl, sym, ap, _∙_}
-use mathlib.Core.Bool.{Bool, true, false, not, _&&_}
+use mathlib.Core.Path.{_≡_, refl, sym}
+use mathlib.Core.Bool.{and-true, Bool, true, false, not, _&&_}
 use mathlib.Core.List.{List}
 use Prim.Native.Nat.{ℕ, suc}
 use borrow.Author.Tests.{eq-eqb}
@@ -31,13 +31,9 @@ tested true earlier g = refl
 tested false earlier g = refl
 
 -- a gate whose b is its record's
-own-b : (fit : Bool) (b : ℕ) → fit ≡ (fit && eqb b b)
-own-b true b = sym (eq-eqb b b refl)
-own-b false b = refl
-
 tested-both : (fit : Bool) (b : ℕ) (earlier : List ℕ) (g : Gate)
     → operands fit (addition earlier g) ≡ adding earlier (refuse (not (fit && eqb b b)) (refused 17) (accepted g))
-tested-both fit b earlier g = ap (λ (t : Bool). operands t (addition earlier g)) (own-b fit b) ∙ tested (fit && eqb b b) earlier g
+tested-both fit b earlier g = rw (eq-eqb b b refl, and-true fit) (tested fit earlier g)
 
 module _ (head : Head) (earlier : List ℕ) (a b : ℕ) where
   -- what a gate of a kind adds

@@ -1,23 +1,23 @@
 -- Laws of Run: the operands and the value of a gate that was read; the gates one after the other, where the gates that are left,
 -- run on the values so far, give all values; and which line of `running` the rules pick for a table that was read.
 -- Assumes nothing.
-use mathlib.Core.Path.{_≡_, refl, sym, ap, ap₂, subst, _∙_}
+use mathlib.Core.Path.{_≡_, refl, sym, ap, ap₂, _∙_}
 use mathlib.Core.Bool.{Bool, true, false, not, _&&_}
 use mathlib.Core.List.{List, [], _∷_, _++_}
 use Prim.Native.Nat.{ℕ, _+_, _-_, _*_, _≤_, _<_, zero-le}
 use native.Mathlib.Omega.{arith}
-use native.Mathlib.Nat.{zero-add, sub-zero}
+use native.Mathlib.Nat.{sub-zero}
 use native.Mathlib.Numerals.{add-one}
 use borrow.Author.Tests.{not-false, eq-eqb, ne-eqb, lt-ltb, le-ltb}
 use lib.Dec.{eqb}
 use lib.ListN.{length, take, drop, getD, set, length-set, take-append-drop, List·getD-append}
 use lib.Seq.{length-take-le, take-suc-set, drop-set-lt}
 use Rattle.answer.specs.Outcome.{Answer, refused, accepted, Outcome, unaltered}
-use Rattle.answer.proofs.Outcome.{passed, answered, accepted-same, Places, numbered-is}
+use Rattle.answer.proofs.Outcome.{passed, answered, accepted-same}
 use Rattle.field.proofs.Tests.{both, in-range}
 use Rattle.digits.specs.Number.{allBelow}
 use Rattle.circuit.specs.Bytes.{byte, wrongMark, u16At}
-use Rattle.circuit.specs.Gate.{Gate, fields, kinds, gateOf, gateMark}
+use Rattle.circuit.specs.Gate.{Gate, fields, gateOf, gateMark}
 use Rattle.circuit.specs.Meaning.{Algebra, meaning, entryOf, interpret, entries}
 use Rattle.circuit.specs.Outcomes.{running}
 use Rattle.circuit.specs.Reading.{fitting, readFields, readGate, readGates, headOf, countOf, reading}
@@ -25,7 +25,7 @@ use Rattle.circuit.specs.Table.{Head, Table, leftSlots, rightSlots, mostGates, 
 use Rattle.circuit.specs.Value.{values}
 use Rattle.circuit.proofs.Fitting.{Fitted, fitted}
 use Rattle.circuit.proofs.Meaning.{interpret-length}
-use Rattle.circuit.proofs.Reading.{gates-read, reads}
+use Rattle.circuit.proofs.Reading.{gates-cons, reads}
 use Rattle.table.specs.Running.{CanRun, valueIn, valuesIn, gatesRead}
 use Rattle.table.proofs.Records.{recordAt, lentAt, lent-is, next-record, one-less}
 
@@ -39,12 +39,6 @@ fitting-is head k b g h e =
     (both (fits head k g) (eqb b (fields g .b)) (not-false _ (operand .0)) .0, accepted-same (operand .1))
 
 module _ (head : Head) (left right : List ℕ) (k kind a b : ℕ) (ready : CanRun head left right (readFields head k kind a b)) where
-  -- what holds of each of the seven kinds holds of the kind
-  pub kind-known : (P : ℕ → Type 0) → Places (λ kind g. P kind) 0 (kinds a b) → P kind
-  kind-known P each =
-      let read = answered (gateOf kind a b) (fitting head k b) (ready .accept) in
-      subst P (zero-add kind) (numbered-is (λ kind g. P kind) 0 16 kind (kinds a b) (read .0) each (read .1))
-
   -- the kind whose gate over a and b is g
   module _ (key : ℕ) (g : Gate) (gate : gateOf key a b ≡ accepted g) (is : kind ≡ key) where
     gate-is : (fits head k g ≡ true) × (g ≡ ready .value)
@@ -108,7 +102,7 @@ module _ {head : Head} {table : List ℕ} {count : ℕ} {left right work₀ work
     next : (g : Gate) × (later : List Gate) × (u .rest ≡ g ∷ later) × (gateRead head table work k ≡ accepted g)
         × (readGates head (k + 1) (count - (k + 1)) (recordAt table (k + 1)) ≡ accepted later)
     next =
-        let s = gates-read head k (count - (k + 1)) (recordAt table k) (u .rest) (rw (one-less count k less) at (u .read)) in (
+        let s = gates-cons head k (count - (k + 1)) (recordAt table k) (u .rest) (rw (one-less count k less) at (u .read)) in (
           s .0,
           s .1,
           s .2,

@@ -16,6 +16,7 @@ ghost use Rattle.circuit.specs.Bytes.{wrongMark, u16At};
 ghost use Rattle.circuit.specs.Constant.{isConstant};
 ghost use Rattle.circuit.specs.Outcomes.{checking, trimming, running};
 ghost use Rattle.circuit.specs.Reading.{readFields, readGate, readGates, headOf, readHead, reading};
+ghost use Rattle.circuit.specs.Table.{mostGates};
 ghost use Rattle.circuit.specs.Value.{values};
 ghost use Rattle.table.specs.Parts.{markOf, headIs, headAnswer};
 ghost use Rattle.table.specs.Reporting.{reporting};
@@ -55,8 +56,8 @@ enum HeadRead {
 enum Added {
     Counted {
         depth: u16,
-        products: u16,
-        squares: u16,
+        products: u32,
+        squares: u32,
     },
     Refused(Refusal),
 }
@@ -148,6 +149,17 @@ fn deeper(a: u16, b: u16) -> u16
     if a < b { b } else { a }
 }
 
+// A gate that is no MUL, at a depth.
+fn linear_at(depth: u16) -> Added
+    ensures { λ r. ⌜ addedAnswer r ≡ accepted (linear depth) ⌝ }
+{
+    Added::Counted {
+        depth,
+        products: 0,
+        squares: 0,
+    }
+}
+
 // LEFT and RIGHT.
 fn slot_gate(a: usize, b: usize, slots: usize) -> Added
     ensures { λ r. ⌜ addedAnswer r ≡ operands (ltb a slots && eqb b 0) (linear 0) ⌝ }
@@ -158,11 +170,7 @@ fn slot_gate(a: usize, b: usize, slots: usize) -> Added
     if b != 0 {
         return Added::Refused(Refusal::WrongOperand);
     }
-    Added::Counted {
-        depth: 0,
-        products: 0,
-        squares: 0,
-    }
+    linear_at(0)
 }
 
 // ADD and SUB.
@@ -175,11 +183,7 @@ fn sum_gate(a: usize, b: usize, earlier: &[u16]) -> Added
     if earlier.len() <= b {
         return Added::Refused(Refusal::WrongOperand);
     }
-    Added::Counted {
-        depth: deeper(earlier[a], earlier[b]),
-        products: 0,
-        squares: 0,
-    }
+    linear_at(deeper(earlier[a], earlier[b]))
 }
 
 // SCALE.
@@ -192,11 +196,7 @@ fn scale_gate(a: usize, b: usize, prime: usize, earlier: &[u16]) -> Added
     if prime <= b {
         return Added::Refused(Refusal::WrongOperand);
     }
-    Added::Counted {
-        depth: earlier[a],
-        products: 0,
-        squares: 0,
-    }
+    linear_at(earlier[a])
 }
 
 // FLIP.
@@ -209,11 +209,7 @@ fn flip_gate(a: usize, b: usize, earlier: &[u16]) -> Added
     if b != 0 {
         return Added::Refused(Refusal::WrongOperand);
     }
-    Added::Counted {
-        depth: earlier[a],
-        products: 0,
-        squares: 0,
-    }
+    linear_at(earlier[a])
 }
 
 // A product or a square at a depth.
@@ -281,21 +277,22 @@ fn read_gate(bytes: &[u8], head: TableHead, earlier: &[u16]) -> Added
 }
 
 // 100 for each product and the weight for each square.
-fn cost_of(products: u16, squares: u16, weight: u8) -> Cost
+fn cost_of(products: u32, squares: u32, weight: u8) -> Cost
+    requires { ⌜ products + squares ≤ mostGates ⌝ }
     ensures { λ r. ⌜ r .0 ≡ 100 * products + weight * squares ⌝ }
 {
-    Cost(100 * (products as u32) + (weight as u32) * (squares as u32))
+    Cost(100 * products + (weight as u32) * squares)
 }
 
 // The report on the first count gates, or the first of their rules that is broken.
 fn check_gates(table: &[u8], head: TableHead, count: usize) -> Reported
-    requires { ⌜ (1 ≤ count) × (count ≤ 8191) × (8 * (count + 1) ≤ length (now table)) ⌝ }
+    requires { ⌜ (1 ≤ count) × (count ≤ mostGates) × (8 * (count + 1) ≤ length (now table)) ⌝ }
     ensures { λ r. ⌜ reportAnswer r ≡ reporting (headIs head) (readGates (headIs head) 0 count (drop 8 (now (table .entry)))) ⌝ }
 {
     let last = count - 1;
     let mut depths = [0u16; MOST_GATES];
-    let mut products: u16 = 0;
-    let mut squares: u16 = 0;
+    let mut products: u32 = 0;
+    let mut squares: u32 = 0;
     let mut k = 0;
     while k < count {
         let at = RECORD * (k + 1);
@@ -315,8 +312,8 @@ fn check_gates(table: &[u8], head: TableHead, count: usize) -> Reported
     }
     Reported::Success(Report {
         gates: count as u16,
-        products,
-        squares,
+        products: products as u16,
+        squares: squares as u16,
         cost: cost_of(products, squares, head.weight),
         depth: Depth(depths[last]),
     })

@@ -1,4 +1,4 @@
--- `table::cost_of` meets its contract: a byte times a u16, and 100 times a u16, fit 32 bits together.
+-- `table::cost_of` meets its contract: a weight is a byte, so over 8191 gates the cost fits 32 bits.
 -- Assumes nothing.
 use Prim.Native.Nat.{ℕ, _*_, _≤_, _<_}
 use native.Mathlib.Omega.{arith}
@@ -10,17 +10,17 @@ use Rattle.table.proofs.cost_of.Tie as tie
 small : (weight squares : ℕ) → weight < 256 → weight * squares ≤ 255 * squares
 small weight squares h = mul-le-mul-right squares (omega arith)
 
-mul-t5 : tie.Need-mul-t5
-mul-t5 c = search needs
+mul-t4 : tie.Need-mul-t4
+mul-t4 c = search needs
 
-mul-t8 : tie.Need-mul-t8
-mul-t8 c = omega (arith, small (c .args .weight) (c .args .squares) (omega arith))
+mul-t6 : tie.Need-mul-t6
+mul-t6 c = omega (arith, small (c .args .weight) (c .args .squares) (omega arith))
 
-add-t9 : tie.Need-add-t9
-add-t9 c = omega (arith, small (c .args .weight) (c .args .squares) (omega arith))
+add-t7 : tie.Need-add-t7
+add-t7 c = omega (arith, small (c .args .weight) (c .args .squares) (omega arith))
 
 returns : tie.Need-returns
 returns c = search needs
 
 pub cost-of-spec : {M : Type 1} → statement M
-cost-of-spec = tie.close (tie.spec mul-t5 mul-t8 add-t9 returns)
+cost-of-spec = tie.close (tie.spec mul-t4 mul-t6 add-t7 returns)

@@ -1,5 +1,6 @@
 -- `table::sum_gate` meets its contract: at each return the tests on the way decide rule 17.
 -- Assumes nothing.
+use mathlib.Core.Bool.{and-false}
 use native.Mathlib.Omega.{arith}
 use borrow.Author.Needs.{needs}
 use borrow.Author.Tests.{lt-ltb, le-ltb}
@@ -12,8 +13,7 @@ returns c = search (le-ltb)
 
 returns-2 : tie.Need-returns-2
 returns-2 c =
-    let a = c .before .before .before .args in
-    rw (lt-ltb _ _ (c .before .if1 .left), le-ltb (a .b) (length (a .earlier .now)) (omega arith))
+    let a = c .before .before .before .args in rw (le-ltb (a .b) (length (a .earlier .now)) (omega arith), and-false)
 
 mul-deeper : tie.Need-mul-deeper
 mul-deeper c = search needs
@@ -30,8 +30,14 @@ shared-slice-read-deeper-2 c = search needs
 deeper-requires : tie.Need-deeper-requires
 deeper-requires c κs = search needs
 
+linear-at-requires : tie.Need-linear-at-requires
+linear-at-requires c κs = search needs
+
 returns-3 : tie.Need-returns-3
-returns-3 c = rw (lt-ltb _ _ (c .before .before .before .before .if1 .left), lt-ltb _ _ (c .before .before .before .if2 .left), c .deeper .ensures)
+returns-3 c =
+    let d = c .before in
+    let e = d .before .before .before in
+    rw (lt-ltb _ _ (e .before .if1 .left), lt-ltb _ _ (e .if2 .left)) (rw (d .deeper .ensures) at (c .linear-at .ensures))
 
 pub sum-gate-spec : {M : Type 1} → statement M
 sum-gate-spec =
@@ -44,4 +50,5 @@ sum-gate-spec =
     mul-deeper-2
     shared-slice-read-deeper-2
     deeper-requires
+    linear-at-requires
     returns-3)

@@ -3,6 +3,7 @@
 use mathlib.Core.Path.{_≡_, sym, ap, _∙_}
 use mathlib.Core.List.{List}
 use Prim.Native.Nat.{ℕ}
+use native.Mathlib.Omega.{arith}
 use borrow.Author.Needs.{needs}
 use lib.Seq.{length-take-le}
 use Rattle.answer.specs.Report.{reportAnswer}
@@ -36,7 +37,7 @@ mul-end c = search needs
 
 slice-aggregate-result : tie.Need-slice-aggregate-result
 slice-aggregate-result c =
-    let t = c .before .before .before in sym (length-take-le _ (bytes (t .before .before)) (told-table (bytes (t .before .before)) _ (told t) .3))
+    let t = c .before .before .before in sym (length-take-le _ (bytes (t .before .before)) (omega (arith, told-table (bytes (t .before .before)) _ (told t) .3)))
 
 enum-told : tie.Need-enum-told
 enum-told c = search needs

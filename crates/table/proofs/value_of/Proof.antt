@@ -1,5 +1,5 @@
 -- `table::value_of` meets its contract: in the arm of a kind the gate of that kind was read, so it keeps the rules,
--- which bound its operands, and its value is the one promised. No other kind is read.
+-- which bound its operands, and its value is the one promised. No other kind has a gate.
 -- Assumes nothing.
 use mathlib.Core.Path.{_≡_, refl, _∙_}
 use mathlib.Core.List.{List}
@@ -17,7 +17,8 @@ use Rattle.circuit.specs.Value.{values}
 use Rattle.circuit.proofs.Fitting.{Fitted}
 use Rattle.table.specs.Parts.{headIs}
 use Rattle.table.specs.Running.{valueIn}
-use Rattle.table.proofs.Running.{kind-known, gate-fitted, gate-value}
+use Rattle.table.proofs.Running.{gate-fitted, gate-value}
+use Rattle.table.proofs.NoKind.{no-kind}
 use Rattle.table.proofs.value_of.Statement.{statement}
 use Rattle.table.proofs.value_of.Tie as tie
 
@@ -59,10 +60,10 @@ add-mod-requires : tie.Need-add-mod-requires
 add-mod-requires c κs = search needs
 
 shared-slice-read-sub-mod : tie.Need-shared-slice-read-sub-mod
-shared-slice-read-sub-mod c = let m = c .before in fitted (m .before) 4 (Sub _ _) refl (m .match .keys4) .0
+shared-slice-read-sub-mod c = let m = c .before in omega (arith, fitted (m .before) 4 (Sub _ _) refl (m .match .keys4))
 
 shared-slice-read-sub-mod-2 : tie.Need-shared-slice-read-sub-mod-2
-shared-slice-read-sub-mod-2 c = let m = c .before .before in fitted (m .before) 4 (Sub _ _) refl (m .match .keys4) .1
+shared-slice-read-sub-mod-2 c = let m = c .before .before in omega (arith, fitted (m .before) 4 (Sub _ _) refl (m .match .keys4))
 
 sub-mod-requires : tie.Need-sub-mod-requires
 sub-mod-requires c κs = search needs
@@ -117,12 +118,7 @@ returns-7 : tie.Need-returns-7
 returns-7 c = let m = c .before .before .before in c .mul-mod2 .ensures ∙ value (m .before) 7 (Mul _ _) refl (m .match .keys7)
 
 returns-8 : tie.Need-returns-8
-returns-8 c =
-    let s = start (c .before) in
-    let r = c .match .rest in
-    absurd
-    (kind-known (head (c .before)) _ _ (length (earlier (c .before))) _ _ _ (s .pre) (λ kind. s .args .kind ≡ kind → ⊥)
-    (r .0 .0 .0 .0 .0 .0 .1, (r .0 .0 .0 .0 .0 .1, (r .0 .0 .0 .0 .1, (r .0 .0 .0 .1, (r .0 .0 .1, (r .0 .1, (r .1, tt))))))) refl)
+returns-8 c = let a = start (c .before) .args in rw (no-kind (a .kind) (a .a) (a .b) (c .match .rest))
 
 pub value-of-spec : {M : Type 1} → statement M
 value-of-spec =
