@@ -1,8 +1,15 @@
-// Prints what Encode and Decode answer at the borders of their rules, a line a case, for comparison
-// with the stored output.
+// Prints what Encode, Decode, Check, Trim and Run answer at the borders of their rules, a line a case,
+// for comparison with the stored output.
+use answer::Reported;
 use digits::Decoded;
 use digits::Encoded;
 use libc::STDOUT_FILENO;
+use table::Ran;
+ghost use mathlib.Core.Path.{_≡_};
+ghost use mathlib.Core.List.{[], _∷_, _++_};
+ghost use Prim.Native.Nat.{_≤_, _<_};
+ghost use Rattle.circuit.specs.Bench.{lessTable};
+ghost use Rattle.circuit.specs.Table.{tableBytes};
 
 fn print(text: &[u8]) {
     io::write_all(STDOUT_FILENO, text);
@@ -115,7 +122,187 @@ fn decode_cases() {
     show_decode(3, &[]);
 }
 
+// The table of document 01's first bench card, and two bytes after it.
+fn bench_table() -> [u8; 66]
+    ensures { λ r. ⌜ r ≡ tableBytes lessTable ++ (9 ∷ 9 ∷ []) ⌝ }
+{
+    [
+        0x47,
+        0x48,
+        3,
+        75,
+        1,
+        0,
+        7,
+        0,
+        0x47,
+        0x54,
+        1,
+        0,
+        0,
+        0,
+        0,
+        0,
+        0x47,
+        0x54,
+        2,
+        0,
+        0,
+        0,
+        0,
+        0,
+        0x47,
+        0x54,
+        4,
+        0,
+        0,
+        0,
+        1,
+        0,
+        0x47,
+        0x54,
+        7,
+        0,
+        2,
+        0,
+        2,
+        0,
+        0x47,
+        0x54,
+        5,
+        0,
+        2,
+        0,
+        1,
+        0,
+        0x47,
+        0x54,
+        5,
+        0,
+        3,
+        0,
+        2,
+        0,
+        0x47,
+        0x54,
+        3,
+        0,
+        4,
+        0,
+        5,
+        0,
+        9,
+        9,
+    ]
+}
+
+fn show_report(bytes: &[u8]) {
+    match table::check(bytes) {
+        Reported::Success(told) => {
+            print(b" gates ");
+            print_number(told.gates as u64);
+            print(b" products ");
+            print_number(told.products as u64);
+            print(b" squares ");
+            print_number(told.squares as u64);
+            print(b" cost ");
+            print_number(told.cost.0 as u64);
+            print(b" depth ");
+            print_number(told.depth.0 as u64);
+        }
+        Reported::Refused(why) => print_refusal(why),
+    }
+}
+
+// Check and Trim on bytes of which some are damaged.
+fn show_table(bytes: &[u8]) {
+    show_report(bytes);
+    print(b", trimmed to ");
+    print_number(table::trim(bytes).len() as u64);
+    print(b"\n");
+}
+
+// The bench table with one byte set to another.
+fn show_damaged(place: usize, byte: u8)
+    requires { ⌜ place < 66 ⌝ }
+{
+    let mut bytes = bench_table();
+    bytes[place] = byte;
+    print(b"check with byte ");
+    print_number(place as u64);
+    print(b" set to ");
+    print_number(byte as u64);
+    print(b":");
+    show_table(&bytes);
+}
+
+fn damage_cases(byte: u8) {
+    let mut place = 0;
+    while place < 66 {
+        show_damaged(place, byte);
+        place += 1;
+    }
+}
+
+// The bench table cut short.
+fn show_shortened(length: usize)
+    requires { ⌜ length ≤ 66 ⌝ }
+{
+    let bytes = bench_table();
+    print(b"check ");
+    print_number(length as u64);
+    print(b" bytes:");
+    show_table(&bytes[..length]);
+}
+
+fn length_cases() {
+    let mut length = 0;
+    while length <= 66 {
+        show_shortened(length);
+        length += 1;
+    }
+}
+
+// Run on the bench table: the answer, and every lent byte afterwards.
+fn show_run(left: &[u8], right: &[u8], work: &mut [u8]) {
+    print(b"run left");
+    print_digits(left);
+    print(b" right");
+    print_digits(right);
+    print(b":");
+    match table::run(&bench_table(), left, right, work) {
+        Ran::Output(value) => {
+            print(b" output ");
+            print_number(value as u64);
+        }
+        Ran::Refused(why) => print_refusal(why),
+    }
+    print(b", lent");
+    print_digits(work);
+    print(b"\n");
+}
+
+fn run_cases() {
+    show_run(&[0], &[0], &mut [9; 8]);
+    show_run(&[0], &[1], &mut [9; 8]);
+    show_run(&[1], &[0], &mut [9; 7]);
+    show_run(&[1], &[1], &mut [9; 7]);
+    show_run(&[2], &[0], &mut [9; 7]);
+    show_run(&[0], &[2], &mut [9; 7]);
+    show_run(&[3], &[0], &mut [9; 7]);
+    show_run(&[0], &[3], &mut [9; 7]);
+    show_run(&[3, 3], &[0], &mut [9; 6]);
+    show_run(&[3], &[], &mut [9; 6]);
+    show_run(&[3], &[0], &mut [9; 6]);
+    show_run(&[0], &[0], &mut [9; 6]);
+}
+
 fn main() {
     encode_cases();
     decode_cases();
+    length_cases();
+    damage_cases(0);
+    damage_cases(7);
+    damage_cases(255);
+    run_cases();
 }
