@@ -84,6 +84,14 @@ IsKind a kind g = (fields g .kind ≡ kind) × (fields g .a ≡ a)
 in-order : (a b : ℕ) → Places (IsKind a) 0 (kinds a b)
 in-order a b = omega arith
 
+-- a gate that passed 17 keeps the rules, has its record's b, and is what was read
+pub fitting-is : (head : Head) (k b : ℕ) (g h : Gate) → fitting head k b g ≡ accepted h → (fits head k g ≡ true) × (fields g .b ≡ b) × (g ≡ h)
+fitting-is head k b g h e =
+    let answer : Answer Gate → Answer Gate = λ r. r in
+    let operand = passed answer (not (fits head k g && eqb b (fields g .b))) (refused 17) _ refl e in
+    let kept = both (fits head k g) (eqb b (fields g .b)) (not-false _ (operand .0)) in
+    (kept .0, sym (eqb-true _ _ (kept .1)), accepted-same (operand .1))
+
 -- what a record says whose gate was read
 pub record Says (head : Head) (k : ℕ) (bytes : List ℕ) (g : Gate) : Type 0 where
   pub mark : (byte bytes 0 ≡ gateMark .opening) × (byte bytes 1 ≡ gateMark .closing)
@@ -99,9 +107,8 @@ says head k bytes g e =
     let mark = passed answer (wrongMark gateMark bytes) (refused 2) _ refl e in
     let spare = passed answer (not (eqb (byte bytes 3) 0)) (refused 5) _ refl (mark .1) in
     let kind = answered (gateOf (byte bytes 2) (u16At bytes 4) (u16At bytes 6)) (fitting head k (u16At bytes 6)) (spare .1) in
-    let operand = passed answer (not (fits head k (kind .0) && eqb (u16At bytes 6) (fields (kind .0) .b))) (refused 17) _ refl (kind .2) in
-    let same : kind .0 ≡ g = accepted-same (operand .1) in
-    let fitted = both (fits head k (kind .0)) (eqb (u16At bytes 6) (fields (kind .0) .b)) (not-false _ (operand .0)) in
+    let operand = fitting-is head k (u16At bytes 6) (kind .0) g (kind .2) in
+    let same : kind .0 ≡ g = operand .2 in
     let a = u16At bytes 4 in
     let b = u16At bytes 6 in
     let told = numbered-is (IsKind a) 0 16 (byte bytes 2) (kinds a b) (kind .0) (in-order a b) (kind .1) in
@@ -110,8 +117,8 @@ says head k bytes g e =
       spare = eqb-true _ _ (not-false _ (spare .0));
       kind = ap (λ g. fields g .kind) (sym same) ∙ told .0 ∙ zero-add _;
       a = ap (λ g. fields g .a) (sym same) ∙ told .1;
-      b = ap (λ g. fields g .b) (sym same) ∙ sym (eqb-true _ _ (fitted .1));
-      fitted = ap (fits head k) (sym same) ∙ fitted .0;
+      b = ap (λ g. fields g .b) (sym same) ∙ operand .1;
+      fitted = ap (fits head k) (sym same) ∙ operand .0;
     }
 
 -- eight bytes and those after them

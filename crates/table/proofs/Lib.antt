@@ -5,4 +5,6 @@ pub mod Records
 pub mod Reporting
 pub mod Checking
 pub mod Outcomes
+pub mod Value
 pub mod Running
+pub mod RunOutcome

@@ -1,22 +1,21 @@
--- What Check and Trim answer, from what the head and the gates were read as; and what Run has of Check's answer.
+-- What Check and Trim answer, from what the head and the gates were read as.
 -- Assumes nothing.
 use mathlib.Core.Path.{_≡_, refl, sym, ap}
 use mathlib.Core.List.{List, []}
 use Prim.Native.Nat.{ℕ, _+_, _*_, _≤_}
 use native.Mathlib.Omega.{arith}
 use lib.ListN.{length, take, drop}
-use Rattle.answer.specs.Outcome.{Answer, refused, accepted, unaltered, onAnswer}
+use Rattle.answer.specs.Outcome.{Answer, refused, accepted, onAnswer}
 use Rattle.answer.specs.Report.{Report}
-use Rattle.answer.proofs.Outcome.{answered, was-refused, accepted-same}
+use Rattle.answer.proofs.Outcome.{answered, accepted-same}
 use Rattle.field.proofs.Tests.{in-range}
 use Rattle.circuit.specs.Gate.{Gate}
-use Rattle.circuit.specs.Outcomes.{checking, trimming, running}
+use Rattle.circuit.specs.Outcomes.{checking, trimming}
 use Rattle.circuit.specs.Reading.{readGates, countOf, readHead, reading}
 use Rattle.circuit.specs.Report.{report}
 use Rattle.circuit.specs.Table.{Head, Table, mostGates}
 use Rattle.circuit.proofs.Reading.{heads, reads}
 use Rattle.table.specs.Reporting.{reporting}
-use Rattle.table.specs.Running.{gatesRead}
 
 -- the gate count of an accepted head, and the room for its records
 pub counted : (bytes : List ℕ) (head : Head) → readHead bytes ≡ accepted head
@@ -51,11 +50,3 @@ trimmed bytes told e = rw (← e)
 
 pub nothing : (bytes : List ℕ) (n : ℕ) → refused n ≡ checking bytes → [] ≡ trimming bytes
 nothing bytes n e = rw (← e)
-
--- ---- what Run has of Check's answer
-
-pub gates-counted : (bytes : List ℕ) (told : Report) → accepted told ≡ checking bytes → gatesRead (reading bytes) ≡ accepted (told .gates)
-gates-counted bytes told e = let t = told-table bytes told e in rw (t .1) (ap accepted (t .2))
-
-pub not-run : (bytes left right work : List ℕ) (n : ℕ) → refused n ≡ checking bytes → running bytes left right work ≡ unaltered work n
-not-run bytes left right work n e = rw (was-refused n (reading bytes) report e)

@@ -1,15 +1,12 @@
--- What Run's functions mean, and what Run answers (document 01, "Operations and what they turn away").
+-- What the functions within Run mean: the values of gates that were read.
 use mathlib.Core.Path.{_≡_}
 use mathlib.Core.List.{List, []}
 use Prim.Native.Nat.{ℕ}
 use lib.ListN.{length}
-use Rattle.answer.specs.Numbers.{refusalNumber}
 use Rattle.answer.specs.Outcome.{Answer, refused, accepted, onAnswer}
 use Rattle.circuit.specs.Gate.{Gate}
 use Rattle.circuit.specs.Meaning.{Algebra, meaning, entryOf, entries}
 use Rattle.circuit.specs.Table.{Head, Table, leftSlots, rightSlots}
-use Rattle.table.specs.declared.Ran.{Ran}
-use Rattle.table.specs.declared.Ran.the-variants.{Output, Refused}
 
 -- what was read is accepted, and both lists have the length that 18 asks
 pub record CanRun {A : Type 0} (head : Head) (left right : List ℕ) (read : Answer A) : Type 0 where
@@ -29,8 +26,3 @@ valuesIn alg read = onAnswer read (λ number. []) (entries alg)
 -- how many gates were read
 abbrev pub gatesRead : Answer Table → Answer ℕ
 gatesRead read = onAnswer read refused (λ table. accepted (length (table .gates)))
-
--- the refusal's number, or the output, for each case of the enum
-abbrev pub runAnswer : Ran → Answer ℕ
-runAnswer (Output value) = accepted value
-runAnswer (Refused why) = refused (refusalNumber why)

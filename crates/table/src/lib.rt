@@ -20,7 +20,8 @@ ghost use Rattle.circuit.specs.Table.{mostGates};
 ghost use Rattle.circuit.specs.Value.{values};
 ghost use Rattle.table.specs.Parts.{markOf, headIs, headAnswer};
 ghost use Rattle.table.specs.Reporting.{reporting};
-ghost use Rattle.table.specs.Running.{CanRun, valueIn, valuesIn, gatesRead, runAnswer};
+ghost use Rattle.table.specs.Ran.{runAnswer};
+ghost use Rattle.table.specs.Running.{CanRun, valueIn, valuesIn, gatesRead};
 ghost use Rattle.table.specs.Adding.{linear, isEarlier, deeperOf, multiplied, operands, adding, AreLow, addedAnswer};
 
 // The marks of a head and of a gate.

@@ -7,7 +7,7 @@ use Rattle.circuit.specs.Bytes.{byte}
 use Rattle.circuit.specs.Reading.{readFields, readGate}
 use Rattle.table.specs.Parts.{headIs}
 use Rattle.table.specs.Running.{CanRun}
-use Rattle.table.proofs.Running.{fields-read}
+use Rattle.table.proofs.Value.{fields-read}
 use Rattle.table.proofs.value_at.Statement.{statement}
 use Rattle.table.proofs.value_at.Tie as tie
 

@@ -17,7 +17,7 @@ use Rattle.circuit.specs.Value.{values}
 use Rattle.circuit.proofs.Fitting.{Fitted}
 use Rattle.table.specs.Parts.{headIs}
 use Rattle.table.specs.Running.{valueIn}
-use Rattle.table.proofs.Running.{gate-fitted, gate-value}
+use Rattle.table.proofs.Value.{gate-fitted, gate-value}
 use Rattle.table.proofs.NoKind.{no-kind}
 use Rattle.table.proofs.value_of.Statement.{statement}
 use Rattle.table.proofs.value_of.Tie as tie
