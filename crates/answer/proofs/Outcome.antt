@@ -1,5 +1,5 @@
 -- Chains of refusals: what is accepted has passed every rule, one rule at a time;
--- an outcome that is known gives its answer and its lent bytes;
+-- an outcome that is known gives its answer and its lent bytes; a chain that refuses keeps the lent bytes;
 -- and an entry taken by its place is the one that stands there.
 -- Assumes nothing.
 use mathlib.Core.Path.{_≡_, refl, sym, ap, subst, _∙_}
@@ -8,7 +8,7 @@ use mathlib.Core.List.{List, [], _∷_}
 use Prim.Native.Nat.{ℕ, zero, suc, _+_, _<_}
 use native.Mathlib.Omega.{arith}
 use lib.ListN.{length}
-use Rattle.answer.specs.Outcome.{Answer, refused, accepted, Outcome, refuse, onAnswer, numbered}
+use Rattle.answer.specs.Outcome.{Answer, refused, accepted, Outcome, unaltered, Keeps, refuse, onAnswer, numbered}
 
 pub refused≢accepted : {A : Type 0} {k : ℕ} {a : A} → refused k ≡ accepted a → ⊥
 refused≢accepted e = let z : _≡_ {A = ℕ} 0 1 = cc in omega arith
@@ -21,6 +21,21 @@ passed answer false refusal later r e = (refl, e)
 
 pub said : {A : Type 0} {o line : Outcome A} → o ≡ line → (line .answer ≡ o .answer) × (line .lent ≡ o .lent)
 said e = (ap (λ o. o .answer) (sym e), ap (λ o. o .lent) (sym e))
+
+-- ---- lent bytes are kept: where nothing is refused, after one rule more, and after an answer
+
+pub accepted-keeps : {A : Type 0} {bytes lent : List ℕ} {a : A} → Keeps bytes (record { answer = accepted a; lent = lent })
+accepted-keeps = record { kept = λ number r. absurd (refused≢accepted (sym r)) }
+
+pub refuse-keeps : {A : Type 0} {bytes : List ℕ} {later : Outcome A} (test : Bool) (k : ℕ) → Keeps bytes later
+    → Keeps bytes (refuse test (unaltered bytes k) later)
+refuse-keeps true k h = record { kept = λ number r. refl }
+refuse-keeps false k h = h
+
+pub onAnswer-keeps : {A B : Type 0} {bytes : List ℕ} {later : A → Outcome B} (first : Answer A) → ((a : A) → Keeps bytes (later a))
+    → Keeps bytes (onAnswer first (unaltered bytes) later)
+onAnswer-keeps (refused k) h = record { kept = λ number r. refl }
+onAnswer-keeps (accepted a) h = h a
 
 -- what is accepted after an answer was accepted too
 pub answered : {A B : Type 0} {b : B} (first : Answer A) (later : A → Answer B) → onAnswer first refused later ≡ accepted b

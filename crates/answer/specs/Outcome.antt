@@ -1,4 +1,5 @@
 -- What an operation answers and what it leaves in the bytes lent to it.
+use mathlib.Core.Path.{_≡_}
 use Prim.Native.Nat.{ℕ, zero, suc}
 use mathlib.Core.Bool.{Bool, true, false}
 use mathlib.Core.List.{List, [], _∷_}
@@ -16,6 +17,10 @@ pub record Outcome (A : Type 0) : Type 0 where
 -- "A refusal answers its number and nothing else; every lent byte is then unaltered."
 abbrev pub unaltered : {A : Type 0} → List ℕ → ℕ → Outcome A
 unaltered bytes number = record { answer = refused number; lent = bytes }
+
+-- the same, as what every operation owes of its outcome
+pub record Keeps {A : Type 0} (bytes : List ℕ) (outcome : Outcome A) : Type 0 where
+  pub kept : (number : ℕ) → outcome .answer ≡ refused number → outcome .lent ≡ bytes
 
 -- the refusal where its test holds, and otherwise what the later rules say
 abbrev pub refuse : {R : Type 0} → Bool → R → R → R

@@ -10,6 +10,7 @@ pub mod Bytes
 pub mod Bounds
 pub mod Count
 pub mod Promises
+pub mod Unaltered
 pub mod Bench
 pub mod RefusalOrder
 pub mod Every

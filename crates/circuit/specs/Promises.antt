@@ -1,11 +1,11 @@
--- What is proved of gate tables, for every p and any number of gates: reading back and bounds.
--- Proved in `proofs/Promises.antt`, `proofs/Later.antt`, `proofs/Bytes.antt` and `proofs/Bounds.antt`.
+-- What is proved of gate tables, for every p and any number of gates: reading back, what a refusal leaves, and bounds.
+-- Proved in `proofs/Promises.antt`, `proofs/Later.antt`, `proofs/Bytes.antt`, `proofs/Unaltered.antt` and `proofs/Bounds.antt`.
 use mathlib.Core.Path.{_≡_}
 use mathlib.Core.Bool.{true}
 use mathlib.Core.List.{List, [], _++_}
 use Prim.Native.Nat.{ℕ, _+_, _*_, _≤_, _<_}
 use lib.ListN.{length, drop}
-use Rattle.answer.specs.Outcome.{refused, accepted}
+use Rattle.answer.specs.Outcome.{refused, accepted, Keeps}
 use Rattle.answer.specs.Report.{Report}
 use Rattle.digits.specs.Number.{allBelow}
 use Rattle.circuit.specs.Count.{products, squares}
@@ -63,6 +63,10 @@ abbrev pub RunsTables : Type 0
 RunsTables =
     (table : Table) (later left right work : List ℕ) → wellFormed table ≡ true
     → running (tableBytes table ++ later) left right work ≡ runningTable left right work table
+
+-- "every lent byte is then unaltered"
+abbrev pub RunKeeps : Type 0
+RunKeeps = (bytes left right work : List ℕ) → Keeps work (running bytes left right work)
 
 -- ---- bounds
 

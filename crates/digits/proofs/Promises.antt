@@ -2,18 +2,21 @@
 -- and the last rule of each operation decides alone where the others are met.
 -- Assumes nothing.
 use mathlib.Core.Path.{_≡_, sym, ap, _∙_}
+use mathlib.Core.Bool.{not}
 use mathlib.Core.List.{List, _++_}
 use Prim.Native.Nat.{ℕ, _-_, _^_, _≤_, _<_}
 use native.Mathlib.Omega.{arith}
 use native.Mathlib.Nat.{lt-of-not-le, le-of-suc-le-suc}
+use lib.Dec.{ltb, leb}
 use lib.ListN.{length, take, drop}
 use lib.Seq.{take-at}
 use Rattle.answer.specs.Outcome.{Outcome, refused, accepted}
-use Rattle.answer.proofs.Outcome.{refused≢accepted}
-use Rattle.digits.specs.Number.{base, number, digitsOf}
+use Rattle.answer.proofs.Outcome.{refused≢accepted, accepted-keeps, refuse-keeps}
+use Rattle.field.specs.Primes.{listed}
+use Rattle.digits.specs.Number.{base, wrongCount, number, digitsOf}
 use Rattle.digits.specs.Encoding.{encoding}
 use Rattle.digits.specs.Decoding.{totalOf, decoding}
-use Rattle.digits.specs.Promises.{ReadsBack, SameDigits, TooLarge, TooWide}
+use Rattle.digits.specs.Promises.{ReadsBack, SameDigits, EncodeKeeps, TooLarge, TooWide}
 use Rattle.digits.proofs.Number.{base-pos, length-digits, digits-below, number-digits, digits-number, number-below}
 use Rattle.digits.proofs.Encoding.{large-refused, encoded, encodes}
 use Rattle.digits.proofs.Decoding.{decoded, total-refused, total-fits, decodes}
@@ -42,6 +45,11 @@ same-digits p x digits out e room =
     = ap (digitsOf B (length digits)) (sym (a .same)) ∙ digits-number B digits (a .below) in
     encoded p (length digits) x out (a .prime) (a .one) (a .most) room small
     ∙ ap (λ (ds : List ℕ). record { answer = accepted tt; lent = ds ++ drop (length digits) out }) back
+
+pub encode-keeps : EncodeKeeps
+encode-keeps p n x out =
+    refuse-keeps (not (listed p)) 3
+    (refuse-keeps (wrongCount n) 9 (refuse-keeps (ltb (length out) n) 21 (refuse-keeps (leb (base p ^ n) x) 22 accepted-keeps)))
 
 pub too-large : TooLarge
 too-large p n x out t l g r = (

@@ -1,11 +1,11 @@
--- What is promised of digits (demand 2, second sentence, and the two refusals that depend on the number). Proved in `proofs/Promises.antt`.
+-- What is promised of digits (demand 2, second sentence, what a refusal leaves, and the two refusals that depend on the number). Proved in `proofs/Promises.antt`.
 use mathlib.Core.Path.{_≡_}
 use mathlib.Core.Logic.{_↔_}
 use mathlib.Core.Bool.{true}
 use mathlib.Core.List.{List, _++_}
 use Prim.Native.Nat.{ℕ, _-_, _^_, _≤_, _<_}
 use lib.ListN.{length, take, drop}
-use Rattle.answer.specs.Outcome.{refused, accepted}
+use Rattle.answer.specs.Outcome.{refused, accepted, Keeps}
 use Rattle.field.specs.Primes.{listed}
 use Rattle.digits.specs.Number.{base, mostDigits, number, allBelow}
 use Rattle.digits.specs.Encoding.{encoding}
@@ -22,6 +22,10 @@ abbrev pub SameDigits : Type 0
 SameDigits =
     (p x : ℕ) (digits out : List ℕ) → decoding p digits ≡ accepted x → length digits ≤ length out
     → encoding p (length digits) x out ≡ record { answer = accepted tt; lent = digits ++ drop (length digits) out }
+
+-- "every lent byte is then unaltered"
+abbrev pub EncodeKeeps : Type 0
+EncodeKeeps = (p n x : ℕ) (out : List ℕ) → Keeps out (encoding p n x out)
 
 -- Encode gives 22 exactly where the number is not below B^n, and otherwise accepts
 abbrev pub TooLarge : Type 0

@@ -3,7 +3,6 @@
 -- By the two cases of reading the card, and of the room.
 -- Assumes nothing.
 use mathlib.Core.Path.{_≡_, refl, sym}
-use mathlib.Core.Bool.{Bool, true, false}
 use mathlib.Core.List.{List, _++_}
 use Prim.Native.Nat.{ℕ, _≤_, _<_}
 use native.Mathlib.Omega.{arith}
@@ -13,13 +12,13 @@ use lib.Dec.{ltb}
 use lib.ListN.{length, drop}
 use lib.Seq.{take-at, drop-at}
 use Rattle.answer.specs.Outcome.{Answer, refused, accepted}
-use Rattle.answer.proofs.Outcome.{refused≢accepted}
+use Rattle.answer.proofs.Outcome.{refused≢accepted, accepted-keeps, refuse-keeps, onAnswer-keeps}
 use Rattle.circuit.specs.Report.{report}
 use Rattle.circuit.specs.Table.{tableBytes}
 use Rattle.circuit.proofs.Reading.{length-table}
 use Rattle.query.specs.Card.{Card}
 use Rattle.query.specs.CardPromises.{RoomDecides, FillsExactly, RefusalKeeps, SameRefusal}
-use Rattle.query.specs.Outcomes.{tableRoom, writing, building}
+use Rattle.query.specs.Outcomes.{tableRoom, building}
 use Rattle.query.specs.Reading.{readCard}
 use Rattle.query.specs.Whole.{tableOf}
 
@@ -48,21 +47,9 @@ room-decides bytes lent card e = (
     there (no n) h =
         absurd (refused≢accepted (sym (rw (e, le-ltb (length lent) (tableRoom (tableOf card)) (omega arith)) at h)))
 
--- of a card that was read, and of its table
-writing-keeps : (lent : List ℕ) (card : Card) (number : ℕ) → writing lent (tableOf card) .answer ≡ refused number
-    → writing lent (tableOf card) .lent ≡ lent
-writing-keeps lent card number h = go (ltb (length lent) (tableRoom (tableOf card))) refl
-  where
-    go : (t : Bool) → ltb (length lent) (tableRoom (tableOf card)) ≡ t → writing lent (tableOf card) .lent ≡ lent
-    go true e = rw e
-    go false e = absurd (refused≢accepted (sym (rw e at h)))
-
 pub refusal-keeps : RefusalKeeps
-refusal-keeps bytes lent number h = go (readCard bytes) refl
-  where
-    go : (r : Answer Card) → readCard bytes ≡ r → building bytes lent .lent ≡ lent
-    go (refused k) e = rw e
-    go (accepted card) e = rw e (writing-keeps lent card number (rw e at h))
+refusal-keeps bytes lent =
+    onAnswer-keeps (readCard bytes) (λ card. refuse-keeps (ltb (length lent) (tableRoom (tableOf card))) 11 accepted-keeps)
 
 pub same-refusal : SameRefusal
 same-refusal bytes lent number h = go (readCard bytes) refl

@@ -5,7 +5,7 @@ use mathlib.Core.Bool.{true}
 use mathlib.Core.List.{List}
 use Prim.Native.Nat.{ℕ, _≤_, _<_}
 use lib.ListN.{length, take, drop}
-use Rattle.answer.specs.Outcome.{refused, accepted}
+use Rattle.answer.specs.Outcome.{refused, accepted, Keeps}
 use Rattle.circuit.specs.Table.{tableBytes}
 use Rattle.query.specs.Card.{Card, cardBytes, keepsRules}
 use Rattle.query.specs.Outcomes.{tableRoom, building, forecasting}
@@ -36,7 +36,7 @@ FillsExactly =
 
 -- "A refusal answers its number and nothing else; every lent byte is then unaltered."
 abbrev pub RefusalKeeps : Type 0
-RefusalKeeps = (bytes lent : List ℕ) (number : ℕ) → building bytes lent .answer ≡ refused number → building bytes lent .lent ≡ lent
+RefusalKeeps = (bytes lent : List ℕ) → Keeps lent (building bytes lent)
 
 -- Forecast: "the same answers from the card only, without 11"
 abbrev pub SameRefusal : Type 0

@@ -48,12 +48,13 @@ struct TableHead {
     slots: u8,
 }
 
+// The head of a table, or why it is refused.
 enum HeadRead {
     Read(TableHead),
     Refused(Refusal),
 }
 
-// What a gate adds to the report on the gates before it.
+// What a gate adds to the report on the gates before it, or why it is refused.
 enum Added {
     Counted {
         depth: u16,
@@ -144,6 +145,7 @@ fn read_head(table: &[u8]) -> HeadRead
     HeadRead::Read(head)
 }
 
+// The larger of two depths.
 fn deeper(a: u16, b: u16) -> u16
     ensures { λ r. ⌜ r ≡ max a b ⌝ }
 {
