@@ -123,77 +123,80 @@ fn decode_cases() {
 }
 
 // The table of document 01's first bench card, and two bytes after it.
+const BENCH: [u8; 66] = [
+    0x47,
+    0x48,
+    3,
+    75,
+    1,
+    0,
+    7,
+    0,
+    0x47,
+    0x54,
+    1,
+    0,
+    0,
+    0,
+    0,
+    0,
+    0x47,
+    0x54,
+    2,
+    0,
+    0,
+    0,
+    0,
+    0,
+    0x47,
+    0x54,
+    4,
+    0,
+    0,
+    0,
+    1,
+    0,
+    0x47,
+    0x54,
+    7,
+    0,
+    2,
+    0,
+    2,
+    0,
+    0x47,
+    0x54,
+    5,
+    0,
+    2,
+    0,
+    1,
+    0,
+    0x47,
+    0x54,
+    5,
+    0,
+    3,
+    0,
+    2,
+    0,
+    0x47,
+    0x54,
+    3,
+    0,
+    4,
+    0,
+    5,
+    0,
+    9,
+    9,
+];
+
+// That it is the listing's.
 fn bench_table() -> [u8; 66]
     ensures { λ r. ⌜ r ≡ tableBytes lessTable ++ (9 ∷ 9 ∷ []) ⌝ }
 {
-    [
-        0x47,
-        0x48,
-        3,
-        75,
-        1,
-        0,
-        7,
-        0,
-        0x47,
-        0x54,
-        1,
-        0,
-        0,
-        0,
-        0,
-        0,
-        0x47,
-        0x54,
-        2,
-        0,
-        0,
-        0,
-        0,
-        0,
-        0x47,
-        0x54,
-        4,
-        0,
-        0,
-        0,
-        1,
-        0,
-        0x47,
-        0x54,
-        7,
-        0,
-        2,
-        0,
-        2,
-        0,
-        0x47,
-        0x54,
-        5,
-        0,
-        2,
-        0,
-        1,
-        0,
-        0x47,
-        0x54,
-        5,
-        0,
-        3,
-        0,
-        2,
-        0,
-        0x47,
-        0x54,
-        3,
-        0,
-        4,
-        0,
-        5,
-        0,
-        9,
-        9,
-    ]
+    BENCH
 }
 
 fn show_report(bytes: &[u8]) {
@@ -282,15 +285,24 @@ fn show_run(left: &[u8], right: &[u8], work: &mut [u8]) {
     print(b"\n");
 }
 
-fn run_cases() {
+// The digits below B = 2.
+fn digit_runs() {
     show_run(&[0], &[0], &mut [9; 8]);
     show_run(&[0], &[1], &mut [9; 8]);
     show_run(&[1], &[0], &mut [9; 7]);
     show_run(&[1], &[1], &mut [9; 7]);
+}
+
+// Values up to p, of which the last is refused.
+fn value_runs() {
     show_run(&[2], &[0], &mut [9; 7]);
     show_run(&[0], &[2], &mut [9; 7]);
     show_run(&[3], &[0], &mut [9; 7]);
     show_run(&[0], &[3], &mut [9; 7]);
+}
+
+// Everything wrong, mended one rule at a time.
+fn refused_runs() {
     show_run(&[3, 3], &[0], &mut [9; 6]);
     show_run(&[3], &[], &mut [9; 6]);
     show_run(&[3], &[0], &mut [9; 6]);
@@ -304,5 +316,7 @@ fn main() {
     damage_cases(0);
     damage_cases(7);
     damage_cases(255);
-    run_cases();
+    digit_runs();
+    value_runs();
+    refused_runs();
 }
