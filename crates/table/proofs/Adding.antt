@@ -1,7 +1,7 @@
 -- What a gate of each kind adds: its rule, 17, and its depth and counts, as the definitions of reading and of the report give them.
 -- Assumes nothing.
 use mathlib.Core.Path.{_≡_, refl, sym}
-use mathlib.Core.Bool.{and-true, Bool, true, false, not, _&&_}
+use mathlib.Core.Bool.{Bool, true, false, not, _&&_, and-true}
 use mathlib.Core.List.{List}
 use Prim.Native.Nat.{ℕ, suc}
 use borrow.Author.Tests.{eq-eqb}
@@ -17,13 +17,13 @@ use Rattle.table.specs.Adding.{Addition, addition, linear, isEarlier, de
 use Rattle.table.proofs.NoKind.{NoKind, no-kind}
 
 -- a gate is added where its operands fit, and refused with any addition where they do not
-pub fitted : (fit : Bool) (x y : Addition) → accepted y ≡ operands fit x → (fit ≡ true) × (y ≡ x)
-fitted true x y e = (refl, accepted-same e)
-fitted false x y e = absurd (refused≢accepted (sym e))
+pub operands-fit : (fit : Bool) (x y : Addition) → accepted y ≡ operands fit x → (fit ≡ true) × (y ≡ x)
+operands-fit true x y e = (refl, accepted-same e)
+operands-fit false x y e = absurd (refused≢accepted (sym e))
 
-pub unfit : (fit : Bool) (x z : Addition) (n : ℕ) → refused n ≡ operands fit x → refused n ≡ operands fit z
-unfit true x z n e = absurd (refused≢accepted e)
-unfit false x z n e = cc
+pub operands-unfit : (fit : Bool) (x z : Addition) (n : ℕ) → refused n ≡ operands fit x → refused n ≡ operands fit z
+operands-unfit true x z n e = absurd (refused≢accepted e)
+operands-unfit false x z n e = cc
 
 -- a gate that was tested
 tested : (fit : Bool) (earlier : List ℕ) (g : Gate) → operands fit (addition earlier g) ≡ adding earlier (refuse (not fit) (refused 17) (accepted g))

@@ -7,14 +7,15 @@ use native.Mathlib.Omega.{arith}
 use native.Mathlib.Decide.{decLt}
 use native.Mathlib.Nat.{add-zero, sub-zero}
 use native.Mathlib.Numerals.{add-one}
+use lib.Dec.{eqb}
 use lib.ListN.{length, take, drop, getD, set, length-append, length-set, List·getD-append}
 use lib.Seq.{take-suc-set, length-take-le, getD-take, getD-append-add}
 use Rattle.answer.specs.Outcome.{Answer, refused, accepted}
 use Rattle.answer.specs.Report.{Report}
 use Rattle.answer.proofs.Outcome.{answered, was-refused, accepted-same}
 use Rattle.circuit.specs.Count.{isMul, count}
-use Rattle.circuit.specs.Meaning.{interpret}
 use Rattle.circuit.specs.Gate.{Gate, fields}
+use Rattle.circuit.specs.Meaning.{interpret}
 use Rattle.circuit.specs.Reading.{readGate, readGates}
 use Rattle.circuit.specs.Table.{Head, mostGates}
 use Rattle.circuit.proofs.Bounds.{depth-below, one-at-most}
@@ -23,8 +24,7 @@ use Rattle.circuit.proofs.Reading.{says}
 use Rattle.table.specs.Adding.{Addition, addition, adding, AreLow}
 use Rattle.table.specs.Reporting.{reporting}
 use Rattle.table.proofs.Records.{recordAt, lentAt, lent-is, next-record, one-less}
-use Rattle.table.proofs.Reporting.{tallying, none-yet, deepened, turn, stops, ends}
-use lib.Dec.{eqb}
+use Rattle.table.proofs.Reporting.{tallying, none-yet, deepened, next-gate, stops, ends}
 
 -- the depths, with one more that is no deeper than its number
 low-more : (earlier : List ℕ) (d : ℕ) → AreLow earlier → length earlier < mostGates → d ≤ length earlier → AreLow (earlier ++ (d ∷ []))
@@ -108,7 +108,7 @@ module _ (head : Head) (table : List ℕ) (count k : ℕ) (depths : List ℕ) (m
     going : tallying head (deepened (take k depths) g) (m + added .products) (q + added .squares)
         (readGates head (k + 1) (count - (k + 1)) (drop 8 (recordAt table k))) ≡ whole
     going =
-        sym (turn head k (count - (k + 1)) (recordAt table k) (take k depths) m q g e) ∙ rw (one-less count k l) at (c .goes)
+        sym (next-gate head k (count - (k + 1)) (recordAt table k) (take k depths) m q g e) ∙ rw (one-less count k l) at (c .goes)
 
     one-more : Checks head table count (k + 1) (set depths k (added .depth)) (m + added .products) (q + added .squares) whole
     one-more = record {

@@ -58,11 +58,11 @@ first-gate head earlier m q g (refused n) = refl
 first-gate head earlier m q g (accepted gs) = ap accepted (one-more (head .weight) earlier m q g gs)
 
 module _ (head : Head) (k left : ℕ) (bytes earlier : List ℕ) (m q : ℕ) where
-  pub turn : (g : Gate) → readGate head k bytes ≡ accepted g
+  pub next-gate : (g : Gate) → readGate head k bytes ≡ accepted g
       → tallying head earlier m q (readGates head k (suc left) bytes)
       ≡ tallying head (deepened earlier g) (m + bit (isProduct g)) (q + bit (isSquare g)) (readGates head (k + 1) left (drop 8 bytes))
   unfolding readGates
-  turn g e = rw (e, add-one) (first-gate head earlier m q g (readGates head (suc k) left (drop 8 bytes)))
+  next-gate g e = rw (e, add-one) (first-gate head earlier m q g (readGates head (suc k) left (drop 8 bytes)))
 
   pub stops : (n : ℕ) → readGate head k bytes ≡ refused n → tallying head earlier m q (readGates head k (suc left) bytes) ≡ refused n
   unfolding readGates

@@ -9,6 +9,7 @@ use borrow.Author.Tests.{eq-eqb, ne-eqb, lt-ltb, le-ltb}
 use lib.Dec.{eqb}
 use lib.ListN.{length, drop, getD, List·getD-append}
 use Rattle.answer.specs.Outcome.{refused, accepted, Outcome, unaltered}
+use Rattle.answer.specs.Report.{Report}
 use Rattle.answer.proofs.Outcome.{answered, accepted-same, was-refused}
 use Rattle.field.proofs.Tests.{in-range}
 use Rattle.digits.specs.Number.{allBelow}
@@ -16,12 +17,11 @@ use Rattle.circuit.specs.Gate.{Gate}
 use Rattle.circuit.specs.Meaning.{entries}
 use Rattle.circuit.specs.Outcomes.{running, checking}
 use Rattle.circuit.specs.Reading.{headOf, countOf, reading}
+use Rattle.circuit.specs.Report.{report}
 use Rattle.circuit.specs.Table.{Head, Table, mostGates}
 use Rattle.circuit.proofs.Meaning.{interpret-length}
 use Rattle.circuit.proofs.Reading.{reads}
 use Rattle.table.specs.Running.{valuesIn, gatesRead}
-use Rattle.answer.specs.Report.{Report}
-use Rattle.circuit.specs.Report.{report}
 use Rattle.table.proofs.Outcomes.{told-table}
 use Rattle.table.proofs.Running.{algebra, allRead}
 

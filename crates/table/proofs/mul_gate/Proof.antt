@@ -9,7 +9,7 @@ use native.Mathlib.Numerals.{add-one}
 use borrow.Author.Needs.{needs}
 use Rattle.circuit.proofs.Fitting.{two-below}
 use Rattle.table.specs.Adding.{linear, isEarlier, deeperOf, addedAnswer}
-use Rattle.table.proofs.Adding.{fitted, unfit}
+use Rattle.table.proofs.Adding.{operands-fit, operands-unfit}
 use Rattle.table.proofs.mul_gate.Statement.{statement}
 use Rattle.table.proofs.mul_gate.Tie as tie
 
@@ -27,7 +27,7 @@ deep c = deeperOf (earlier c) (c .before .before .args .a) (c .before .before .a
 told : (c : tie.After-depth) → (fit (c .before .before) ≡ true) × (c .depth .given .0 .0 ≡ deep (c .before .before))
 told c =
     let s = c .before .before in
-    let f = fitted (fit s) (linear (deep s)) _ (sym (ap addedAnswer (c .depth .given .1)) ∙ s .sum-gate .ensures) in
+    let f = operands-fit (fit s) (linear (deep s)) _ (sym (ap addedAnswer (c .depth .given .1)) ∙ s .sum-gate .ensures) in
     (f .0, ap (λ x. x .depth) (f .1))
 
 sum-gate-requires : tie.Need-sum-gate-requires
@@ -57,7 +57,7 @@ returns c =
 returns-2 : tie.Need-returns-2
 returns-2 c =
     let s = c .before .before .before in
-    unfit (fit s) (linear (deep s)) _ _ (sym (ap addedAnswer (c .before .why .given .1)) ∙ s .sum-gate .ensures)
+    operands-unfit (fit s) (linear (deep s)) _ _ (sym (ap addedAnswer (c .before .why .given .1)) ∙ s .sum-gate .ensures)
 
 pub mul-gate-spec : {M : Type 1} → statement M
 mul-gate-spec =
