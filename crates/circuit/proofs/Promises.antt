@@ -1,14 +1,15 @@
 -- The promises of tables: what Check, Trim and Run answer for a table's bytes, that Check accepts nothing else, and the bounds of what it answers.
 -- All follow from what reading gives, in `proofs/Reading.antt`.
 -- Assumes nothing.
-use mathlib.Core.Path.{sym}
+use mathlib.Core.Path.{sym, _∙_}
 use Prim.Native.Nat.{_+_, _-_, _*_}
 use native.Mathlib.Omega.{arith}
+use borrow.Author.Tests.{eq-eqb, le-ltb}
 use lib.ListN.{length, drop}
 use lib.Seq.{take-at}
 use Rattle.answer.proofs.Outcome.{answered, accepted-same}
 use Rattle.field.proofs.Tests.{in-range}
-use Rattle.circuit.specs.Promises.{ReadsBack, OnlyTables, ChecksTables, ChecksOnlyTables, TrimsTables, TrimsNothing, RunsTables, Bounded, ReportBounds}
+use Rattle.circuit.specs.Promises.{ReadsBack, OnlyTables, ChecksTables, ChecksOnlyTables, TrimsTables, TrimsNothing, RunsTables, RunAccepts, Bounded, ReportBounds}
 use Rattle.circuit.specs.Reading.{reading}
 use Rattle.circuit.specs.Report.{report}
 use Rattle.circuit.specs.Table.{Table, tableBytes, mostGates}
@@ -41,6 +42,10 @@ trims-nothing bytes number e = rw e
 
 pub runs-tables : RunsTables
 runs-tables table later left right work t = rw (reads-back table later t)
+
+pub run-accepts : RunAccepts
+run-accepts table later left right work t l r hl hr enough =
+    runs-tables table later left right work t ∙ rw (eq-eqb _ _ l, eq-eqb _ _ r, hl, hr, le-ltb _ _ enough)
 
 bounds : (table : Table) → WellFormed table → Bounded (report table)
 bounds table w =

@@ -11,11 +11,11 @@ use Rattle.digits.specs.Number.{allBelow}
 use Rattle.circuit.specs.Count.{products, squares}
 use Rattle.circuit.specs.Depth.{depths}
 use Rattle.circuit.specs.Gate.{Gate}
-use Rattle.circuit.specs.Meaning.{entries, entryAt}
+use Rattle.circuit.specs.Meaning.{entries, entryAt, output}
 use Rattle.circuit.specs.Outcomes.{checking, trimming, runningTable, running}
 use Rattle.circuit.specs.Reading.{countOf, reading}
 use Rattle.circuit.specs.Report.{report}
-use Rattle.circuit.specs.Table.{Head, Table, tableBytes, allFit, wellFormed, mostGates}
+use Rattle.circuit.specs.Table.{Head, Table, leftSlots, rightSlots, tableBytes, allFit, wellFormed, mostGates}
 use Rattle.circuit.specs.Value.{values}
 
 -- ---- reading back
@@ -63,6 +63,18 @@ abbrev pub RunsTables : Type 0
 RunsTables =
     (table : Table) (later left right work : List ℕ) → wellFormed table ≡ true
     → running (tableBytes table ++ later) left right work ≡ runningTable left right work table
+
+-- "Accepted and finished: all others.": lists and a work buffer that keep the rules are run, with the value of every gate
+abbrev pub RunAccepts : Type 0
+RunAccepts =
+    (table : Table) (later left right work : List ℕ) → wellFormed table ≡ true
+    → length left ≡ leftSlots (table .head) → length right ≡ rightSlots (table .head)
+    → allBelow (table .head .prime) left ≡ true → allBelow (table .head .prime) right ≡ true → length (table .gates) ≤ length work
+    → running (tableBytes table ++ later) left right work
+    ≡ record {
+      answer = accepted (output (values (table .head .prime) left right) (table .gates));
+      lent = entries (values (table .head .prime) left right) (table .gates) ++ drop (length (table .gates)) work;
+    }
 
 -- "every lent byte is then unaltered"
 abbrev pub RunKeeps : Type 0

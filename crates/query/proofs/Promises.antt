@@ -8,7 +8,6 @@ use mathlib.Core.List.{List, map, map-map}
 use Prim.Native.Nat.{ℕ, suc, _-_, _*_, _%_, _^_, _≤_, _<_}
 use native.Mathlib.Omega.{arith}
 use native.Mathlib.Nat.{le-refl, zero-add, mod-eq-of-lt}
-use borrow.Author.Tests.{le-ltb, eq-eqb}
 use lib.ListN.{length, length-append, drop}
 use Rattle.answer.specs.Outcome.{accepted, Outcome}
 use Rattle.answer.specs.Report.{Report}
@@ -36,7 +35,7 @@ use Rattle.circuit.proofs.Every.{every-map, every-map₂, map-same}
 use Rattle.circuit.proofs.Fitting.{fit-append}
 use Rattle.circuit.proofs.Kraft.{at-least}
 use Rattle.circuit.proofs.ProductTree.{tree-last, product-fits, product-count, product-value, product-depth}
-use Rattle.circuit.proofs.Promises.{checks-tables, trims-tables, runs-tables}
+use Rattle.circuit.proofs.Promises.{checks-tables, trims-tables, run-accepts}
 use Rattle.circuit.proofs.WellFormed.{is-well-formed}
 use Rattle.comparison.specs.Condition.{Condition}
 use Rattle.comparison.specs.Formulas.{conditionSize, conditionProducts, conditionSquares, conditionCost, costSummand}
@@ -279,8 +278,8 @@ trims-to-table bytes lent card e room =
 pub runs-the-table : RunsTheTable
 runs-the-table bytes lent left right work card e room l r hl hr enough =
     let table = tableOf card in
-    let ran = runs-tables table (drop (tableRoom table) lent) left right work (formed bytes card e) in
-    rw (built bytes lent card e room, ran, eq-eqb _ _ l, eq-eqb _ _ r, hl, hr, le-ltb _ _ enough)
+    let ran = run-accepts table (drop (tableRoom table) lent) left right work (formed bytes card e) l r hl hr enough in
+    rw (built bytes lent card e room, ran)
 
 pub right-run : RightRun
 right-run bytes lent left right work card e room l r enough =
