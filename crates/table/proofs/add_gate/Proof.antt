@@ -1,4 +1,4 @@
--- `table::add_gate` meets its contract: in each arm the kind is a number, at which reading the fields computes, and the helper says what the gate adds.
+-- `table::add_gate` meets its contract: in each arm the kind is a number, at which reading the fields computes, and the function called says what the gate adds.
 -- Assumes nothing.
 use mathlib.Core.Path.{_∙_}
 use borrow.Author.Needs.{needs}
