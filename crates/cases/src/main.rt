@@ -192,7 +192,7 @@ const BENCH: [u8; 66] = [
     9,
 ];
 
-// That it is the listing's.
+// The array, whose contract is that its bytes are the listing's.
 fn bench_table() -> [u8; 66]
     ensures { λ r. ⌜ r ≡ tableBytes lessTable ++ (9 ∷ 9 ∷ []) ⌝ }
 {
@@ -217,7 +217,7 @@ fn show_report(bytes: &[u8]) {
     }
 }
 
-// Check and Trim on bytes of which some are damaged.
+// What Check and Trim answer on the bytes.
 fn show_table(bytes: &[u8]) {
     show_report(bytes);
     print(b", trimmed to ");

@@ -19,7 +19,7 @@ use Rattle.digits.specs.Number.{wrongCount, allBelow}
 use Rattle.digits.proofs.Number.{below-at, below-drop}
 use Rattle.circuit.specs.Bytes.{Mark, byte, wrongMark, u16At}
 use Rattle.circuit.specs.Gate.{Gate, Left, Right, Add, Sub, Scale, Flip, Mul, fields, kinds, gateOf, gateMark, gateBytes}
-use Rattle.circuit.specs.Reading.{fitting, readGate, readGates, headOf, countOf, readHead, readTable, reading}
+use Rattle.circuit.specs.Reading.{fitting, readFields, readGate, readGates, headOf, countOf, readHead, readTable, reading}
 use Rattle.circuit.specs.Table.{Head, Table, headMark, gatesBytes, tableBytes, wrongWeight, wrongGateCount, fits, allFit}
 use Rattle.circuit.proofs.Fitting.{fit-cons}
 use Rattle.circuit.proofs.WellFormed.{WellFormed}
@@ -92,6 +92,15 @@ fitting-is head k b g h e =
     let kept = both (fits head k g) (eqb b (fields g .b)) (not-false _ (operand .0)) in
     (kept .0, sym (eqb-true _ _ (kept .1)), accepted-same (operand .1))
 
+-- a record whose gate was read passed 2 and 5, and its fields are read as the gate
+pub fields-read : (head : Head) (k : ℕ) (bytes : List ℕ) (g : Gate) → readGate head k bytes ≡ accepted g
+    → (wrongMark gateMark bytes ≡ false) × (byte bytes 3 ≡ 0) × (readFields head k (byte bytes 2) (u16At bytes 4) (u16At bytes 6) ≡ accepted g)
+fields-read head k bytes g e =
+    let answer : Answer Gate → Answer Gate = λ r. r in
+    let mark = passed answer (wrongMark gateMark bytes) (refused 2) _ refl e in
+    let spare = passed answer (not (eqb (byte bytes 3) 0)) (refused 5) _ refl (mark .1) in
+    (mark .0, eqb-true _ _ (not-false _ (spare .0)), spare .1)
+
 -- what a record says whose gate was read
 pub record Says (head : Head) (k : ℕ) (bytes : List ℕ) (g : Gate) : Type 0 where
   pub mark : (byte bytes 0 ≡ gateMark .opening) × (byte bytes 1 ≡ gateMark .closing)
@@ -103,18 +112,16 @@ pub record Says (head : Head) (k : ℕ) (bytes : List ℕ) (g : Gate) : Type 0 w
 
 pub says : (head : Head) (k : ℕ) (bytes : List ℕ) (g : Gate) → readGate head k bytes ≡ accepted g → Says head k bytes g
 says head k bytes g e =
-    let answer : Answer Gate → Answer Gate = λ r. r in
-    let mark = passed answer (wrongMark gateMark bytes) (refused 2) _ refl e in
-    let spare = passed answer (not (eqb (byte bytes 3) 0)) (refused 5) _ refl (mark .1) in
-    let kind = answered (gateOf (byte bytes 2) (u16At bytes 4) (u16At bytes 6)) (fitting head k (u16At bytes 6)) (spare .1) in
+    let read = fields-read head k bytes g e in
+    let kind = answered (gateOf (byte bytes 2) (u16At bytes 4) (u16At bytes 6)) (fitting head k (u16At bytes 6)) (read .2) in
     let operand = fitting-is head k (u16At bytes 6) (kind .0) g (kind .2) in
     let same : kind .0 ≡ g = operand .2 in
     let a = u16At bytes 4 in
     let b = u16At bytes 6 in
     let told = numbered-is (IsKind a) 0 16 (byte bytes 2) (kinds a b) (kind .0) (in-order a b) (kind .1) in
     record {
-      mark = mark-is gateMark bytes (mark .0);
-      spare = eqb-true _ _ (not-false _ (spare .0));
+      mark = mark-is gateMark bytes (read .0);
+      spare = read .1;
       kind = ap (λ g. fields g .kind) (sym same) ∙ told .0 ∙ zero-add _;
       a = ap (λ g. fields g .a) (sym same) ∙ told .1;
       b = ap (λ g. fields g .b) (sym same) ∙ operand .1;

@@ -54,10 +54,11 @@ readHead bytes =
     (refuse (ltb (length bytes) (8 * (countOf bytes + 1))) (refused 15)
     (accepted (headOf bytes)))))))))
 
--- "then by gate"
+-- "then by gate": the table of a head that was read
 abbrev pub readTable : List ℕ → Head → Answer Table
 readTable bytes head =
     onAnswer (readGates head 0 (countOf bytes) (drop 8 bytes)) refused (λ gates. accepted (record { head = head; gates = gates }))
 
+-- the head's rules, then by gate
 abbrev pub reading : List ℕ → Answer Table
 reading bytes = onAnswer (readHead bytes) refused (readTable bytes)

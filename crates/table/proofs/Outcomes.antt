@@ -1,9 +1,8 @@
 -- What Check and Trim answer, from what the head and the gates were read as.
 -- Assumes nothing.
-use mathlib.Core.Path.{_≡_, refl, sym, ap}
+use mathlib.Core.Path.{_≡_, refl, sym, ap, _∙_}
 use mathlib.Core.List.{List, []}
 use Prim.Native.Nat.{ℕ, _+_, _*_, _≤_}
-use native.Mathlib.Omega.{arith}
 use lib.ListN.{length, take, drop}
 use Rattle.answer.specs.Outcome.{Answer, refused, accepted, onAnswer}
 use Rattle.answer.specs.Report.{Report}
@@ -16,6 +15,7 @@ use Rattle.circuit.specs.Report.{report}
 use Rattle.circuit.specs.Table.{Head, Table, mostGates}
 use Rattle.circuit.proofs.Reading.{heads, reads}
 use Rattle.table.specs.Reporting.{reporting}
+use Rattle.table.specs.Running.{gatesRead}
 
 -- the gate count of an accepted head, and the room for its records
 pub counted : (bytes : List ℕ) (head : Head) → readHead bytes ≡ accepted head
@@ -36,14 +36,22 @@ pub gates-checked : (bytes : List ℕ) (head : Head) → readHead bytes ≡ acce
     → reporting head (readGates head 0 (countOf bytes) (drop 8 bytes)) ≡ checking bytes
 gates-checked bytes head e = rw e (gates-told head (readGates head 0 (countOf bytes) (drop 8 bytes)))
 
--- a table that Check accepts
-pub told-table : (bytes : List ℕ) (told : Report) → accepted told ≡ checking bytes
-    → (table : Table) × (reading bytes ≡ accepted table) × (length (table .gates) ≡ told .gates) × (8 * (told .gates + 1) ≤ length bytes)
-told-table bytes told e =
-    let t = answered (reading bytes) _ (sym e) in
-    let r = reads bytes (t .0) (t .1) in
-    let same : length (t .0 .gates) ≡ told .gates = ap (λ told. told .gates) (accepted-same (t .2)) in
-    (t .0, t .1, same, omega (arith, r .kept .room, r .count))
+-- ---- a table that Check accepts
+
+pub gates-counted : (bytes : List ℕ) (told : Report) → accepted told ≡ checking bytes → gatesRead (reading bytes) ≡ accepted (told .gates)
+gates-counted bytes told e =
+    let t = answered (reading bytes) _ (sym e) in rw (t .1) (ap (λ told. accepted (told .gates)) (accepted-same (t .2)))
+
+module _ (bytes : List ℕ) (count : ℕ) (e : gatesRead (reading bytes) ≡ accepted count) where
+  pub table-read : (table : Table) × (reading bytes ≡ accepted table) × (length (table .gates) ≡ count)
+  table-read =
+      let s = answered (reading bytes) (λ table. accepted (length (table .gates))) e in (s .0, s .1, accepted-same (s .2))
+
+  pub same-count : countOf bytes ≡ count
+  same-count = sym (reads bytes (table-read .0) (table-read .1) .count) ∙ table-read .2
+
+  pub long : 8 * (count + 1) ≤ length bytes
+  long = rw (← same-count) (reads bytes (table-read .0) (table-read .1) .kept .room)
 
 pub trimmed : (bytes : List ℕ) (told : Report) → accepted told ≡ checking bytes → take (8 * (told .gates + 1)) bytes ≡ trimming bytes
 trimmed bytes told e = rw (← e)

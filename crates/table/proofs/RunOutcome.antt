@@ -9,8 +9,7 @@ use borrow.Author.Tests.{eq-eqb, ne-eqb, lt-ltb, le-ltb}
 use lib.Dec.{eqb}
 use lib.ListN.{length, drop, getD, List·getD-append}
 use Rattle.answer.specs.Outcome.{refused, accepted, Outcome, unaltered}
-use Rattle.answer.specs.Report.{Report}
-use Rattle.answer.proofs.Outcome.{answered, accepted-same, was-refused}
+use Rattle.answer.proofs.Outcome.{was-refused}
 use Rattle.field.proofs.Tests.{in-range}
 use Rattle.digits.specs.Number.{allBelow}
 use Rattle.circuit.specs.Gate.{Gate}
@@ -18,22 +17,19 @@ use Rattle.circuit.specs.Meaning.{entries}
 use Rattle.circuit.specs.Outcomes.{running, checking}
 use Rattle.circuit.specs.Reading.{headOf, countOf, reading}
 use Rattle.circuit.specs.Report.{report}
-use Rattle.circuit.specs.Table.{Head, Table, mostGates}
+use Rattle.circuit.specs.Table.{Head, mostGates}
 use Rattle.circuit.proofs.Meaning.{interpret-length}
 use Rattle.circuit.proofs.Reading.{reads}
 use Rattle.table.specs.Running.{valuesIn, gatesRead}
-use Rattle.table.proofs.Outcomes.{told-table}
+use Rattle.table.proofs.Outcomes.{table-read, same-count, long}
 use Rattle.table.proofs.Running.{algebra, allRead}
 
--- ---- what Run has of Check's answer
-
-pub gates-counted : (bytes : List ℕ) (told : Report) → accepted told ≡ checking bytes → gatesRead (reading bytes) ≡ accepted (told .gates)
-gates-counted bytes told e = let t = told-table bytes told e in rw (t .1) (ap accepted (t .2))
+-- ---- a table that Check refuses
 
 pub not-run : (bytes left right work : List ℕ) (n : ℕ) → refused n ≡ checking bytes → running bytes left right work ≡ unaltered work n
 not-run bytes left right work n e = rw (was-refused n (reading bytes) report e)
 
--- ---- a table that was read
+-- ---- a table that it accepts
 
 -- over its head, its gate count, and its slot count and prime as the code has them
 pub record Checked (bytes : List ℕ) (head : Head) (count slots p : ℕ) : Type 0 where
@@ -46,30 +42,22 @@ pub record Checked (bytes : List ℕ) (head : Head) (count slots p : ℕ) : Type
   pub slots-are : slots ≡ head .slots
   pub prime-is : p ≡ head .prime
 
-module _ (bytes : List ℕ) (count : ℕ) (e : gatesRead (reading bytes) ≡ accepted count) where
-  table-read : (table : Table) × (reading bytes ≡ accepted table) × (length (table .gates) ≡ count)
-  table-read =
-      let s = answered (reading bytes) (λ table. accepted (length (table .gates))) e in (s .0, s .1, accepted-same (s .2))
-
-  same-count : countOf bytes ≡ count
-  same-count = sym (reads bytes (table-read .0) (table-read .1) .count) ∙ table-read .2
-
-  pub long : 8 * (count + 1) ≤ length bytes
-  long = rw (← same-count) (reads bytes (table-read .0) (table-read .1) .kept .room)
-
-  pub checked : (head : Head) (slots p : ℕ) → head ≡ headOf bytes → slots ≡ head .slots → p ≡ head .prime → Checked bytes head count slots p
-  checked head slots p same slots-are prime-is =
-      let r = reads bytes (table-read .0) (table-read .1) in
-      record {
-        gates = table-read .0 .gates;
-        read = table-read .1 ∙ ap (λ (h : Head). accepted (record { head = h; gates = table-read .0 .gates })) (r .head ∙ sym same);
-        all = ap₂ (λ (h : Head) (n : ℕ). allRead h bytes n) same (sym same-count) ∙ r .gates;
-        size = table-read .2;
-        some = omega (arith, in-range (countOf bytes) 1 mostGates (r .kept .count), same-count);
-        room = long;
-        slots-are = slots-are;
-        prime-is = prime-is;
-      }
+pub checked : (bytes : List ℕ) (count : ℕ) → gatesRead (reading bytes) ≡ accepted count → (head : Head) (slots p : ℕ) → head ≡ headOf bytes
+    → slots ≡ head .slots → p ≡ head .prime → Checked bytes head count slots p
+checked bytes count e head slots p same slots-are prime-is =
+    let t = table-read bytes count e in
+    let counted = same-count bytes count e in
+    let r = reads bytes (t .0) (t .1) in
+    record {
+      gates = t .0 .gates;
+      read = t .1 ∙ ap (λ (h : Head). accepted (record { head = h; gates = t .0 .gates })) (r .head ∙ sym same);
+      all = ap₂ (λ (h : Head) (n : ℕ). allRead h bytes n) same (sym counted) ∙ r .gates;
+      size = t .2;
+      some = omega (arith, in-range (countOf bytes) 1 mostGates (r .kept .count), counted);
+      room = long bytes count e;
+      slots-are = slots-are;
+      prime-is = prime-is;
+    }
 
 -- which line of `running` the rules pick, one rule after the other
 module _ {bytes : List ℕ} {head : Head} {count slots p : ℕ} (s : Checked bytes head count slots p) (left right work : List ℕ) where

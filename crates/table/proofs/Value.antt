@@ -1,19 +1,17 @@
 -- One gate of Run: where its kind, a and b were read as a gate, that gate keeps the rules and has the value that is promised.
 -- Assumes nothing.
-use mathlib.Core.Path.{_≡_, refl, sym, ap, _∙_}
-use mathlib.Core.Bool.{true, not}
+use mathlib.Core.Path.{_≡_, sym, ap, _∙_}
+use mathlib.Core.Bool.{true}
 use mathlib.Core.List.{List}
 use Prim.Native.Nat.{ℕ}
-use lib.Dec.{eqb}
-use Rattle.answer.specs.Outcome.{Answer, refused, accepted}
-use Rattle.answer.proofs.Outcome.{passed}
-use Rattle.circuit.specs.Bytes.{byte, wrongMark, u16At}
-use Rattle.circuit.specs.Gate.{Gate, fields, gateOf, gateMark}
+use Rattle.answer.specs.Outcome.{accepted}
+use Rattle.circuit.specs.Bytes.{byte, u16At}
+use Rattle.circuit.specs.Gate.{Gate, fields, gateOf}
 use Rattle.circuit.specs.Meaning.{Algebra, meaning, entryOf}
 use Rattle.circuit.specs.Reading.{readFields, readGate}
 use Rattle.circuit.specs.Table.{Head, fits}
 use Rattle.circuit.proofs.Fitting.{Fitted, fitted}
-use Rattle.circuit.proofs.Reading.{fitting-is}
+use Rattle.circuit.proofs.Reading.{fitting-is, fields-read}
 use Rattle.table.specs.Running.{CanRun, valueIn}
 
 module _ (head : Head) (left right : List ℕ) (k kind a b : ℕ) (ready : CanRun head left right (readFields head k kind a b)) where
@@ -30,10 +28,6 @@ module _ (head : Head) (left right : List ℕ) (k kind a b : ℕ) (ready : CanRu
     gate-value alg earlier = rw (ready .accept) (ap (meaning alg (entryOf alg earlier)) (gate-is .2))
 
 -- a gate that was read was read from its record's fields
-pub fields-read : (head : Head) (k a b : ℕ) (bytes : List ℕ) (g : Gate) → a ≡ u16At bytes 4 → b ≡ u16At bytes 6
+pub same-read : (head : Head) (k a b : ℕ) (bytes : List ℕ) (g : Gate) → a ≡ u16At bytes 4 → b ≡ u16At bytes 6
     → readGate head k bytes ≡ accepted g → readGate head k bytes ≡ readFields head k (byte bytes 2) a b
-fields-read head k a b bytes g same same′ e =
-    let answer : Answer Gate → Answer Gate = λ r. r in
-    let mark = passed answer (wrongMark gateMark bytes) (refused 2) _ refl e in
-    let spare = passed answer (not (eqb (byte bytes 3) 0)) (refused 5) _ refl (mark .1) in
-    rw (same, same′) (e ∙ sym (spare .1))
+same-read head k a b bytes g same same′ e = rw (same, same′) (e ∙ sym (fields-read head k bytes g e .2))

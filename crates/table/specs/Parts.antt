@@ -14,6 +14,7 @@ use Rattle.table.specs.declared.HeadRead.the-variants.{Read, Refused}
 abbrev pub markOf : List ℕ → Mark
 markOf pair = record { opening = getD pair 0 0; closing = getD pair 1 0 }
 
+-- the head that the code's struct stands for
 abbrev pub headIs : TableHead → Head
 headIs head = record { prime = head .prime; weight = head .weight; slots = head .slots }
 

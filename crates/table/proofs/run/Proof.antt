@@ -6,7 +6,8 @@ use Prim.Native.Nat.{ℕ}
 use borrow.Author.Needs.{needs}
 use Rattle.answer.specs.Report.{reportAnswer}
 use Rattle.answer.proofs.Outcome.{said}
-use Rattle.table.proofs.RunOutcome.{gates-counted, not-run}
+use Rattle.table.proofs.Outcomes.{gates-counted}
+use Rattle.table.proofs.RunOutcome.{not-run}
 use Rattle.table.proofs.run.Statement.{statement}
 use Rattle.table.proofs.run.Tie as tie
 

@@ -8,7 +8,8 @@ use borrow.Author.Tests.{not-true, not-false}
 use Rattle.answer.proofs.Outcome.{said}
 use Rattle.digits.specs.Number.{allBelow}
 use Rattle.table.specs.Parts.{headIs}
-use Rattle.table.proofs.RunOutcome.{Checked, long, checked, left-length, right-length, left-value, right-value, work-short, ran}
+use Rattle.table.proofs.Outcomes.{long}
+use Rattle.table.proofs.RunOutcome.{Checked, checked, left-length, right-length, left-value, right-value, work-short, ran}
 use Rattle.table.proofs.run_checked.Statement.{statement}
 use Rattle.table.proofs.run_checked.Tie as tie
 

@@ -9,7 +9,7 @@ use lib.Seq.{length-take-le}
 use Rattle.answer.specs.Report.{reportAnswer}
 use Rattle.answer.specs.declared.Reported.the-variants.{Success}
 use Rattle.circuit.specs.Outcomes.{checking}
-use Rattle.table.proofs.Outcomes.{told-table, trimmed, nothing}
+use Rattle.table.proofs.Outcomes.{gates-counted, long, trimmed, nothing}
 use Rattle.table.proofs.trim.Statement.{statement}
 use Rattle.table.proofs.trim.Tie as tie
 
@@ -37,7 +37,7 @@ mul-end c = search needs
 
 slice-aggregate-result : tie.Need-slice-aggregate-result
 slice-aggregate-result c =
-    let t = c .before .before .before in sym (length-take-le _ (bytes (t .before .before)) (omega (arith, told-table (bytes (t .before .before)) _ (told t) .3)))
+    let t = c .before .before .before in sym (length-take-le _ (bytes (t .before .before)) (omega (arith, long (bytes (t .before .before)) _ (gates-counted (bytes (t .before .before)) _ (told t)))))
 
 enum-told : tie.Need-enum-told
 enum-told c = search needs

@@ -7,7 +7,7 @@ use Rattle.circuit.specs.Bytes.{byte}
 use Rattle.circuit.specs.Reading.{readFields, readGate}
 use Rattle.table.specs.Parts.{headIs}
 use Rattle.table.specs.Running.{CanRun}
-use Rattle.table.proofs.Value.{fields-read}
+use Rattle.table.proofs.Value.{same-read}
 use Rattle.table.proofs.value_at.Statement.{statement}
 use Rattle.table.proofs.value_at.Tie as tie
 
@@ -30,7 +30,7 @@ same : (c : tie.After-u16-at2)
 same c =
     let s = start c .args in
     let gate = start c .pre .1 in
-    fields-read (headIs (s .head)) (length (s .earlier .now)) _ _ (s .bytes .now) (gate .value) (c .before .u16-at .ensures .0) (c .u16-at2 .ensures .0) (gate .accept)
+    same-read (headIs (s .head)) (length (s .earlier .now)) _ _ (s .bytes .now) (gate .value) (c .before .u16-at .ensures .0) (c .u16-at2 .ensures .0) (gate .accept)
 
 value-of-requires : tie.Need-value-of-requires
 value-of-requires c κs = subst (CanRun _ _ _) (same c) (start c .pre .1)
