@@ -26,7 +26,7 @@ pub record Fields : Type 0 where
   pub a : ℕ
   pub b : ℕ
 
-abbrev row : ℕ → ℕ → ℕ → Fields
+abbrev pub row : ℕ → ℕ → ℕ → Fields
 row kind a b = record { kind = kind; a = a; b = b }
 
 -- "Kinds: 1 LEFT slot a, b=0; 2 RIGHT slot a, b=0; 3 ADD a+b; 4 SUB a-b; 5 SCALE gate a times constant b<p; 6 FLIP 1-a, b=0; 7 MUL a times b."
@@ -52,5 +52,8 @@ abbrev pub gateMark : Mark
 gateMark = record { opening = 0x47; closing = 0x54 }
 
 -- "Gate: 0x47 0x54, kind, spare 0, a as u16, b as u16"
+abbrev pub recordBytes : Fields → List ℕ
+recordBytes f = marked gateMark (f .kind ∷ 0 ∷ u16 (f .a) (u16 (f .b) []))
+
 abbrev pub gateBytes : Gate → List ℕ
-gateBytes g = marked gateMark (fields g .kind ∷ 0 ∷ u16 (fields g .a) (u16 (fields g .b) []))
+gateBytes g = recordBytes (fields g)

@@ -25,12 +25,12 @@ ghost use Rattle.table.specs.Running.{CanRun, valueIn, valuesIn, gatesRe
 ghost use Rattle.table.specs.Adding.{linear, isEarlier, deeperOf, multiplied, operands, adding, AreLow, addedAnswer};
 
 // The marks of a head and of a gate.
-const HEAD_MARK: [u8; 2] = [0x47, 0x48];
+pub const HEAD_MARK: [u8; 2] = [0x47, 0x48];
 
-const GATE_MARK: [u8; 2] = [0x47, 0x54];
+pub const GATE_MARK: [u8; 2] = [0x47, 0x54];
 
 // The bytes of a record.
-const RECORD: usize = 8;
+pub const RECORD: usize = 8;
 
 // The most gates of a table.
 const MOST_GATES: usize = 8191;
@@ -64,7 +64,7 @@ enum Added {
     Refused(Refusal),
 }
 
-fn wide(x: u8) -> usize
+pub fn wide(x: u8) -> usize
     ensures { λ r. ⌜ (r ≡ x) × (r < 256) ⌝ }
 {
     x as usize
@@ -79,7 +79,7 @@ fn u16_at(bytes: &[u8], at: usize) -> usize
 }
 
 // Whether bytes open with another pair than a mark.
-fn lacks_mark(bytes: &[u8], mark: [u8; 2]) -> bool
+pub fn lacks_mark(bytes: &[u8], mark: [u8; 2]) -> bool
     requires { ⌜ 2 ≤ length (now bytes) ⌝ }
     ensures { λ r. ⌜ r ≡ wrongMark (markOf mark) (now (bytes .entry)) ⌝ }
 {
@@ -90,7 +90,7 @@ fn lacks_mark(bytes: &[u8], mark: [u8; 2]) -> bool
 }
 
 // Whether x is below or above a range.
-fn outside(x: usize, low: usize, high: usize) -> bool
+pub fn outside(x: usize, low: usize, high: usize) -> bool
     ensures { λ r. ⌜ r ≡ (ltb x low || ltb high x) ⌝ }
 {
     if x < low {
@@ -146,7 +146,7 @@ fn read_head(table: &[u8]) -> HeadRead
 }
 
 // The larger of two depths.
-fn deeper(a: u16, b: u16) -> u16
+pub fn deeper(a: u16, b: u16) -> u16
     ensures { λ r. ⌜ r ≡ max a b ⌝ }
 {
     if a < b { b } else { a }

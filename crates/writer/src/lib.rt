@@ -1,0 +1,183 @@
+// Writing gate tables: the head, and one gate at a time by a pen that counts.
+use table::GATE_MARK;
+use table::HEAD_MARK;
+use table::RECORD;
+ghost use mathlib.Core.Path.{_≡_};
+ghost use mathlib.Core.List.{[], _∷_};
+ghost use Prim.Native.Nat.{_+_, _*_, _≤_, _<_};
+ghost use lib.ListN.{length};
+ghost use lib.Seq.{sets};
+ghost use Rattle.circuit.specs.Count.{products, squares};
+ghost use Rattle.circuit.specs.Gate.{row, recordBytes, Left, Right, Add, Sub, Scale, Flip, Mul};
+ghost use Rattle.circuit.specs.ProductTree.{times};
+ghost use Rattle.circuit.specs.Table.{headBytes, mostGates};
+ghost use Rattle.writer.specs.Nodes.{nodeIs};
+ghost use Rattle.writer.specs.Pen.{Wrote, Room, Moved};
+
+// The number of the next gate, and the products and squares so far.
+pub struct Pen {
+    pub next: u16,
+    pub products: u32,
+    pub squares: u32,
+}
+
+// A gate with its depth.
+pub struct Node {
+    pub gate: u16,
+    pub depth: u16,
+}
+
+// The pen after a gate, and the gate with its depth.
+pub struct Written {
+    pub pen: Pen,
+    pub node: Node,
+}
+
+// Writes the head of a table.
+pub fn put_head(table: &mut [u8], prime: u8, weight: u8, slots: u8, count: u16)
+    requires { ⌜ 8 ≤ length (now table) ⌝ }
+    ensures { λ _. ⌜ now (table .exit) ≡ sets (now (table .entry)) 0 (headBytes (record { prime = prime; weight = weight; slots = slots }) count) ⌝ }
+{
+    let mark = HEAD_MARK;
+    table[0] = mark[0];
+    table[1] = mark[1];
+    table[2] = prime;
+    table[3] = weight;
+    table[4] = slots;
+    table[5] = 0;
+    table[6] = (count % 256) as u8;
+    table[7] = (count / 256) as u8;
+}
+
+// Writes the record of gate number k.
+fn put_record(table: &mut [u8], k: u16, kind: u8, a: u16, b: u16)
+    requires { ⌜ 8 * (k + 2) ≤ length (now table) ⌝ }
+    ensures { λ _. ⌜ now (table .exit) ≡ sets (now (table .entry)) (8 * (k + 1)) (recordBytes (row kind a b)) ⌝ }
+{
+    let mark = GATE_MARK;
+    let at = RECORD * (k as usize + 1);
+    table[at] = mark[0];
+    table[at + 1] = mark[1];
+    table[at + 2] = kind;
+    table[at + 3] = 0;
+    table[at + 4] = (a % 256) as u8;
+    table[at + 5] = (a / 256) as u8;
+    table[at + 6] = (b % 256) as u8;
+    table[at + 7] = (b / 256) as u8;
+}
+
+// The pen after a gate that is no MUL.
+fn moved(pen: Pen) -> Pen
+    requires { ⌜ pen .next < mostGates ⌝ }
+    ensures { λ r. ⌜ (r .next ≡ pen .next + 1) × (r .products ≡ pen .products) × (r .squares ≡ pen .squares) ⌝ }
+{
+    Pen {
+        next: pen.next + 1,
+        products: pen.products,
+        squares: pen.squares,
+    }
+}
+
+// LEFT.
+pub fn put_left(table: &mut [u8], pen: Pen, slot: u16) -> Pen
+    requires { ⌜ Room (now table) pen 1 ⌝ }
+    ensures wrote { λ r. ⌜ Wrote (now (table .entry)) pen (Left slot ∷ []) (now (table .exit)) r ⌝ }
+    ensures moves { λ r. ⌜ Moved pen 1 r ⌝ }
+{
+    put_record(table, pen.next, 1, slot, 0);
+    moved(pen)
+}
+
+// RIGHT.
+pub fn put_right(table: &mut [u8], pen: Pen, slot: u16) -> Pen
+    requires { ⌜ Room (now table) pen 1 ⌝ }
+    ensures wrote { λ r. ⌜ Wrote (now (table .entry)) pen (Right slot ∷ []) (now (table .exit)) r ⌝ }
+    ensures moves { λ r. ⌜ Moved pen 1 r ⌝ }
+{
+    put_record(table, pen.next, 2, slot, 0);
+    moved(pen)
+}
+
+// ADD.
+pub fn put_add(table: &mut [u8], pen: Pen, a: u16, b: u16) -> Pen
+    requires { ⌜ Room (now table) pen 1 ⌝ }
+    ensures wrote { λ r. ⌜ Wrote (now (table .entry)) pen (Add a b ∷ []) (now (table .exit)) r ⌝ }
+    ensures moves { λ r. ⌜ Moved pen 1 r ⌝ }
+{
+    put_record(table, pen.next, 3, a, b);
+    moved(pen)
+}
+
+// SUB.
+pub fn put_sub(table: &mut [u8], pen: Pen, a: u16, b: u16) -> Pen
+    requires { ⌜ Room (now table) pen 1 ⌝ }
+    ensures wrote { λ r. ⌜ Wrote (now (table .entry)) pen (Sub a b ∷ []) (now (table .exit)) r ⌝ }
+    ensures moves { λ r. ⌜ Moved pen 1 r ⌝ }
+{
+    put_record(table, pen.next, 4, a, b);
+    moved(pen)
+}
+
+// SCALE.
+pub fn put_scale(table: &mut [u8], pen: Pen, a: u16, b: u16) -> Pen
+    requires { ⌜ Room (now table) pen 1 ⌝ }
+    ensures wrote { λ r. ⌜ Wrote (now (table .entry)) pen (Scale a b ∷ []) (now (table .exit)) r ⌝ }
+    ensures moves { λ r. ⌜ Moved pen 1 r ⌝ }
+{
+    put_record(table, pen.next, 5, a, b);
+    moved(pen)
+}
+
+// FLIP.
+pub fn put_flip(table: &mut [u8], pen: Pen, a: u16) -> Pen
+    requires { ⌜ Room (now table) pen 1 ⌝ }
+    ensures wrote { λ r. ⌜ Wrote (now (table .entry)) pen (Flip a ∷ []) (now (table .exit)) r ⌝ }
+    ensures moves { λ r. ⌜ Moved pen 1 r ⌝ }
+{
+    put_record(table, pen.next, 6, a, 0);
+    moved(pen)
+}
+
+// The pen after a MUL.
+fn counted(pen: Pen, a: u16, b: u16) -> Pen
+    requires { ⌜ (pen .next < mostGates) × (pen .products ≤ pen .next) × (pen .squares ≤ pen .next) ⌝ }
+    ensures { λ r. ⌜ (r .next ≡ pen .next + 1) × (r .products ≡ pen .products + products (Mul a b ∷ [])) × (r .squares ≡ pen .squares + squares (Mul a b ∷ [])) ⌝ }
+{
+    if a == b {
+        return Pen {
+            next: pen.next + 1,
+            products: pen.products,
+            squares: pen.squares + 1,
+        };
+    }
+    Pen {
+        next: pen.next + 1,
+        products: pen.products + 1,
+        squares: pen.squares,
+    }
+}
+
+// MUL.
+pub fn put_mul(table: &mut [u8], pen: Pen, a: u16, b: u16) -> Pen
+    requires { ⌜ Room (now table) pen 1 ⌝ }
+    ensures wrote { λ r. ⌜ Wrote (now (table .entry)) pen (Mul a b ∷ []) (now (table .exit)) r ⌝ }
+    ensures moves { λ r. ⌜ Moved pen 1 r ⌝ }
+{
+    put_record(table, pen.next, 7, a, b);
+    counted(pen, a, b)
+}
+
+// MUL, with the depth of the product.
+pub fn multiply(table: &mut [u8], pen: Pen, a: Node, b: Node) -> Written
+    requires { ⌜ Room (now table) pen 1 × (a .depth < mostGates) × (b .depth < mostGates) ⌝ }
+    ensures wrote { λ r. ⌜ Wrote (now (table .entry)) pen (Mul (a .gate) (b .gate) ∷ []) (now (table .exit)) (r .pen) ⌝ }
+    ensures moves { λ r. ⌜ Moved pen 1 (r .pen) ⌝ }
+    ensures deepens { λ r. ⌜ nodeIs (r .node) ≡ times (pen .next) (nodeIs a) (nodeIs b) ⌝ }
+{
+    let gate = pen.next;
+    let depth = table::deeper(a.depth, b.depth) + 1;
+    Written {
+        pen: put_mul(table, pen, a.gate, b.gate),
+        node: Node { gate, depth },
+    }
+}
