@@ -11,6 +11,7 @@ ghost use Rattle.circuit.specs.Count.{products, squares};
 ghost use Rattle.circuit.specs.Gate.{row, recordBytes, Left, Right, Add, Sub, Scale, Flip, Mul};
 ghost use Rattle.circuit.specs.ProductTree.{times};
 ghost use Rattle.circuit.specs.Table.{headBytes, mostGates};
+ghost use Rattle.comparison.specs.Difference.{minus};
 ghost use Rattle.writer.specs.Nodes.{nodeIs};
 ghost use Rattle.writer.specs.Pen.{Wrote, Room, Moved};
 
@@ -31,6 +32,13 @@ pub struct Node {
 pub struct Written {
     pub pen: Pen,
     pub node: Node,
+}
+
+// The digits of a condition: how many, and the first slot on each side.
+pub struct Slots {
+    pub count: u16,
+    pub left: u16,
+    pub right: u16,
 }
 
 // Writes the head of a table.
@@ -180,4 +188,27 @@ pub fn multiply(table: &mut [u8], pen: Pen, a: Node, b: Node) -> Written
         pen: put_mul(table, pen, a.gate, b.gate),
         node: Node { gate, depth },
     }
+}
+
+// The difference of the digits at gates k and k + 1, or that of the second and the first.
+fn put_minus(table: &mut [u8], pen: Pen, backward: bool, k: u16) -> Pen
+    requires { ⌜ Room (now table) pen 1 × (k < mostGates) ⌝ }
+    ensures wrote { λ r. ⌜ Wrote (now (table .entry)) pen (minus backward k ∷ []) (now (table .exit)) r ⌝ }
+    ensures moves { λ r. ⌜ Moved pen 1 r ⌝ }
+{
+    if backward {
+        return put_sub(table, pen, k + 1, k);
+    }
+    put_sub(table, pen, k, k + 1)
+}
+
+// LEFT, RIGHT and z.
+pub fn put_difference(table: &mut [u8], pen: Pen, backward: bool, left: u16, right: u16) -> Pen
+    requires { ⌜ Room (now table) pen 3 ⌝ }
+    ensures wrote { λ r. ⌜ Wrote (now (table .entry)) pen (Left left ∷ Right right ∷ minus backward (pen .next) ∷ []) (now (table .exit)) r ⌝ }
+    ensures moves { λ r. ⌜ Moved pen 3 r ⌝ }
+{
+    let second = put_left(table, pen, left);
+    let third = put_right(table, second, right);
+    put_minus(table, third, backward, pen.next)
 }
