@@ -55,7 +55,7 @@ module _ (p : ℕ) (three : 3 ≤ p) (odd : p % 2 ≡ 1) where
   before-none true = omega arith
   before-none false = omega arith
 
-  start-first : (c : Condition) (k : ℕ) → digitStart p c k 0 ≡ k
+  pub start-first : (c : Condition) (k : ℕ) → digitStart p c k 0 ≡ k
   start-first c k = omega (arith, before-none (isOrder (c .relation)))
 
   -- all of a condition's digits

@@ -143,13 +143,13 @@ module _ (left right : List ℕ) (E : ℕ → ℕ) (p z : ℕ) (three : 3 ≤ p)
 
 -- ---- depths
 
-module _ (E : ℕ → ℕ) (p z : ℕ) (three : 3 ≤ p) (odd : p % 2 ≡ 1) (h : Solves depths E (suc z) (powers p z)) (flat : E z ≡ 0) where
-  -- a product of the halves
-  power-deep : (i x y : ℕ) → 2 ≤ i → x ≡ clog (i / 2) → y ≡ clog ((i + 1) / 2) → depths .mul x y ≡ clog i
-  power-deep i x y two hx hy =
-      let shallow : clog (i / 2) ≤ clog ((i + 1) / 2) = clog-mono (omega arith) in
-      omega (arith, clog-half i two)
+-- a product of the powers of the halves
+pub power-deep : (i x y : ℕ) → 2 ≤ i → x ≡ clog (i / 2) → y ≡ clog ((i + 1) / 2) → depths .mul x y ≡ clog i
+power-deep i x y two hx hy =
+    let shallow : clog (i / 2) ≤ clog ((i + 1) / 2) = clog-mono (omega arith) in
+    omega (arith, clog-half i two)
 
+module _ (E : ℕ → ℕ) (p z : ℕ) (three : 3 ≤ p) (odd : p % 2 ≡ 1) (h : Solves depths E (suc z) (powers p z)) (flat : E z ≡ 0) where
   low-depth : (most i : ℕ) → i ≤ most → 1 ≤ i → i ≤ half p → E (lowPower z i) ≡ clog i
   low-depth zero i m one l = absurd (omega arith)
   low-depth (suc most) zero m one l = absurd (omega arith)

@@ -9,5 +9,6 @@ pub mod Euclid
 pub mod Binomial
 pub mod Fermat
 pub mod PowerSum
+pub mod Constants
 pub mod Geometric
 pub mod Polynomials

@@ -13,7 +13,7 @@ use native.Mathlib.Omega.{arith}
 use native.Mathlib.Nat.{mod-lt, mod-eq-of-lt, zero-mod, mod-self, pow-zero, pow-succ', mul-comm, add-comm, add-zero, mul-zero, zero-mul}
 use native.Mathlib.Numerals.{one-add}
 use native.Mathlib.Decide.{decLe}
-use borrow.Author.Tests.{ne-eqb, eq-eqb, lt-ltb, le-ltb}
+use borrow.Author.Tests.{ne-eqb, lt-ltb, le-ltb}
 use lib.Dec.{ltb, eqb}
 use Rattle.field.specs.Sum.{sum, total}
 use Rattle.field.specs.Bit.{bit}
@@ -22,6 +22,7 @@ use Rattle.field.specs.Polynomials.{everySecond, orderExponents, orderCo
 use Rattle.field.specs.Promises.{ZeroTest, OrderTest}
 use Rattle.field.proofs.Modular.{mod-same, multiple-between, mod-mul, add-cong, mul-cong, none-add, mul-none, none-mul, mul-unit, opposite-squares, minus-add, add-cancel, minus-of, minus-zero, subMod-is}
 use Rattle.field.proofs.Sum.{sum-shift, sum-mul, sum-same, sum-swap, sum-cong, sum-none, sum-single, total-append}
+use Rattle.field.proofs.Constants.{constant-odd, constant-last}
 use Rattle.field.proofs.Geometric.{geometric, telescope, geometric-same, geometric-cong}
 use Rattle.field.proofs.Euclid.{different-squares}
 use Rattle.field.proofs.Fermat.{fermat-one, fermat-zero}
@@ -140,20 +141,9 @@ module _ (p h : ℕ) (prime : Prime p) (whole : p ≡ suc (2 * h)) where
 
   -- ---- the order polynomial as that sum and its last term
 
-  constant-odd : (k : ℕ) → k < h → orderConstant p (1 + 2 * k) ≡ sum h (λ b. suc b ^ (2 * h - (1 + 2 * k))) % p
-  unfolding orderConstant
-  constant-odd k l =
-      let half : (p - 1) / 2 ≡ h = omega arith in
-      rw (ne-eqb (1 + 2 * k) (p - 1) (λ q. omega arith), orderConstant, half)
-      (mod-same p (sum-same h _ _ (λ b m. ap (λ (t : ℕ). suc b ^ t) (omega arith))))
-
-  constant-last : orderConstant p (p - 1) ≡ suc h
-  unfolding orderConstant
-  constant-last = rw (eq-eqb (p - 1) (p - 1) refl, orderConstant) (omega arith)
-
   term-odd : (z k : ℕ) → k < h → (orderConstant p (1 + 2 * k) * z ^ (1 + 2 * k)) % p ≡ sum h (λ b. z ^ (1 + 2 * k) * suc b ^ (2 * h - (1 + 2 * k))) % p
   term-odd z k l =
-      rw (constant-odd k l)
+      rw (constant-odd p h whole k l)
       (mod-mul _ (z ^ (1 + 2 * k)) p ∙ mod-same p (mul-comm _ (z ^ (1 + 2 * k)) ∙ sym (sum-mul h (z ^ (1 + 2 * k)) _)))
 
   by-terms : (z : ℕ) → orderPolynomial p z ≡ sum h (λ k. orderConstant p (1 + 2 * k) * z ^ (1 + 2 * k)) + suc h * z ^ (p - 1)
@@ -162,7 +152,7 @@ module _ (p h : ℕ) (prime : Prime p) (whole : p ≡ suc (2 * h)) where
       let half : (p - 1) / 2 ≡ h = omega arith in
       ap total (map-append term (everySecond ((p - 1) / 2) 1) ((p - 1) ∷ []))
       ∙ total-append (map term (everySecond ((p - 1) / 2) 1)) (term (p - 1) ∷ [])
-      ∙ rw (half, constant-last) (ap₂ _+_ (total-second h 1 term) (add-zero _))
+      ∙ rw (half, constant-last p h whole) (ap₂ _+_ (total-second h 1 term) (add-zero _))
     where
       term : ℕ → ℕ
       term i = orderConstant p i * z ^ i

@@ -5,4 +5,5 @@ pub mod Logarithm
 pub mod Sum
 pub mod Bit
 pub mod Polynomials
+pub mod Constants
 pub mod Promises

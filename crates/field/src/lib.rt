@@ -1,8 +1,14 @@
-// The prime field: which primes are listed, arithmetic modulo p, logarithms.
+// The prime field: which primes are listed, arithmetic modulo p, logarithms, the constants of the order polynomial.
 ghost use mathlib.Core.Path.{_≡_};
+ghost use mathlib.Core.List.{_++_};
+ghost use Prim.Native.Nat.{_+_, _/_, _%_, _≤_, _<_};
+ghost use lib.ListN.{length, drop};
 ghost use Rattle.field.specs.Primes.{primes, member, listed};
 ghost use Rattle.field.specs.Modular.{residue, addMod, subMod, mulMod};
 ghost use Rattle.field.specs.Logarithm.{flog, clog};
+ghost use Rattle.field.specs.Sum.{total};
+ghost use Rattle.field.specs.Polynomials.{orderConstants};
+ghost use Rattle.field.specs.Constants.{oneTo, productsMod, powersMod, oddConstants};
 
 // The odd primes from 3 to 251, ascending.
 const PRIMES: [u8; 53] = [
@@ -60,6 +66,9 @@ const PRIMES: [u8; 53] = [
     241,
     251,
 ];
+
+// Room for the order constants of any odd p below 256: one for each odd exponent below p, and one for p - 1.
+pub const MOST_CONSTANTS: usize = 128;
 
 // The array of primes: that it is the list of the definition is its rule.
 fn listed_primes() -> [u8; 53]
@@ -148,4 +157,89 @@ pub fn ceil_log2(n: u16) -> u16
         levels += 1;
     }
     levels
+}
+
+fn wide(x: u8) -> usize
+    ensures { λ r. ⌜ (r ≡ x) × (r < 256) ⌝ }
+{
+    x as usize
+}
+
+// Puts 1, 2, 3, .. into the list.
+fn put_ascending(list: &mut [u8])
+    requires { ⌜ length (now list) < 256 ⌝ }
+    ensures { λ _. ⌜ now (list .exit) ≡ oneTo (length (now (list .entry))) ⌝ }
+{
+    let mut b = 0;
+    while b < list.len() {
+        list[b] = (b + 1) as u8;
+        b += 1;
+    }
+}
+
+// Puts the squares of 1, 2, 3, .. modulo p into the list.
+fn put_squares(list: &mut [u8], p: u8)
+    requires { ⌜ length (now list) < 256 ⌝ }
+    ensures { λ _. ⌜ now (list .exit) ≡ powersMod p 2 (length (now (list .entry))) ⌝ }
+{
+    let mut i = 0;
+    while i < list.len() {
+        let b = (i + 1) as u8;
+        list[i] = mul_mod(b, b, p);
+        i += 1;
+    }
+}
+
+// Multiplies each entry by the factor at its place, modulo p.
+fn multiply_each(list: &mut [u8], factors: &[u8], p: u8)
+    requires { ⌜ length (now list) ≡ length (now factors) ⌝ }
+    ensures { λ _. ⌜ now (list .exit) ≡ productsMod p (now (list .entry)) (now (factors .entry)) ⌝ }
+{
+    let mut i = 0;
+    while i < list.len() {
+        list[i] = mul_mod(list[i], factors[i], p);
+        i += 1;
+    }
+}
+
+// The sum of the entries modulo p.
+fn sum_mod(list: &[u8], p: u8) -> u8
+    requires { ⌜ length (now list) < 256 ⌝ }
+    ensures { λ r. ⌜ r ≡ residue p (total (now (list .entry))) ⌝ }
+{
+    let mut sum: u16 = 0;
+    let mut i = 0;
+    while i < list.len() {
+        sum += list[i] as u16;
+        i += 1;
+    }
+    remainder(sum, p)
+}
+
+// Puts the constants of the odd exponents below p at the start of constants, from the last one down. The powers b^1, b^3, .. go up by
+// a factor b^2 each time, so that a constant takes one product and one addition for each b.
+fn put_odd_constants(p: u8, powers: &mut [u8], squares: &[u8], constants: &mut [u8])
+    requires { ⌜ (p % 2 ≡ 1) × (now powers ≡ powersMod p 1 (p / 2)) × (now squares ≡ powersMod p 2 (p / 2)) × (p / 2 ≤ length (now constants)) ⌝ }
+    ensures { λ _. ⌜ now (constants .exit) ≡ oddConstants p ++ drop (p / 2) (now (constants .entry)) ⌝ }
+{
+    let mut m = powers.len();
+    while 0 < m {
+        m -= 1;
+        constants[m] = sum_mod(powers, p);
+        multiply_each(powers, squares, p);
+    }
+}
+
+// Puts the order constants of p at the start of constants.
+pub fn put_order_constants(p: u8, constants: &mut [u8])
+    requires { ⌜ (3 ≤ p) × (p % 2 ≡ 1) × (p / 2 + 1 ≤ length (now constants)) ⌝ }
+    ensures { λ _. ⌜ now (constants .exit) ≡ orderConstants p ++ drop (p / 2 + 1) (now (constants .entry)) ⌝ }
+{
+    let half = wide(p / 2);
+    let mut powers = [0u8; MOST_CONSTANTS];
+    let mut squares = [0u8; MOST_CONSTANTS];
+    put_ascending(&mut powers[..half]);
+    put_squares(&mut squares[..half], p);
+    constants[half] = p / 2 + 1;
+    put_odd_constants(p, &mut powers[..half], &squares[..half], constants);
 }

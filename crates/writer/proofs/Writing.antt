@@ -1,7 +1,7 @@
 -- Laws of writing: nothing is written, one gate is, and what is written one after the other. Bytes laid over a table one part after the other
 -- are the whole laid over it, and counts add up.
 -- Assumes nothing.
-use mathlib.Core.Path.{_≡_, refl, sym, ap, _∙_}
+use mathlib.Core.Path.{_≡_, refl, sym, ap, _∙_, subst}
 use mathlib.Core.List.{List, [], _∷_, _++_}
 use Prim.Native.Nat.{ℕ, suc, _+_, _*_, _≤_}
 use native.Mathlib.Omega.{arith}
@@ -64,6 +64,12 @@ pub one : {table : List ℕ} {pen : Pen} (g : Gate) {table′ : List ℕ} {pen�
     → Wrote table pen (g ∷ []) table′ pen′
 unfolding laid gatesBytes
 one g bytes counts = record { bytes = bytes; number = counts .0; products = counts .1; squares = counts .2 }
+
+-- the same gates, said in another way
+pub same-gates : {table table′ : List ℕ} {pen pen′ : Pen} {gs hs : List Gate} → gs ≡ hs → Wrote table pen gs table′ pen′
+    → Wrote table pen hs table′ pen′
+same-gates {table = table} {table′ = table′} {pen = pen} {pen′ = pen′} e w =
+    subst (λ (gates : List Gate). Wrote table pen gates table′ pen′) e w
 
 -- one after the other
 pub then : {table table₁ table₂ : List ℕ} {pen pen₁ pen₂ : Pen} {gs hs : List Gate} → Wrote table pen gs table₁ pen₁

@@ -1,0 +1,4 @@
+-- Laws of writing order conditions.
+pub mod Powers
+pub mod Terms
+pub mod Digit

@@ -1,0 +1,110 @@
+-- The terms of an order digit: where the constants of a card stand, what is left of the terms to write, and the depth of their sum.
+-- Assumes nothing.
+use mathlib.Core.Path.{_≡_, refl, ap, _∙_}
+use mathlib.Core.List.{List, [], _∷_, _++_, map}
+use Prim.Native.Nat.{ℕ, zero, suc, _+_, _-_, _*_, _/_, _%_, _≤_, _<_, max}
+use native.Mathlib.Omega.{arith}
+use native.Mathlib.Decide.{decLe}
+use native.Mathlib.Nat.{lt-of-not-le, max-eq-right}
+use lib.ListN.{length, length-map, length-append, getD}
+use lib.Seq.{getD-at}
+use Rattle.field.specs.Logarithm.{clog}
+use Rattle.field.specs.Polynomials.{everySecond, orderExponents, orderConstant, orderConstants}
+use Rattle.field.proofs.Logarithm.{clog-mono}
+use Rattle.circuit.specs.Gate.{Scale, Add}
+use Rattle.comparison.specs.OrderDigit.{half, powerGate, laterTerms, terms}
+use Rattle.comparison.proofs.Mapped.{length-second}
+use Rattle.comparison.proofs.Powers.{gate-low, gate-high}
+use Rattle.order.specs.Constants.{Constants}
+
+-- ---- the constants
+
+-- the exponents after those below i: the odd ones from i on, and p - 1
+abbrev pub exponentsFrom : ℕ → ℕ → List ℕ
+exponentsFrom p i = everySecond ((p - i) / 2) i ++ ((p - 1) ∷ [])
+
+mapped-at : (f : ℕ → ℕ) (is later : List ℕ) (m : ℕ) → m < length is → getD (map f is ++ later) m 0 ≡ f (getD is m 0)
+mapped-at f [] later m l = absurd (omega arith)
+mapped-at f (i ∷ is) later zero l = refl
+mapped-at f (i ∷ is) later (suc m) l = mapped-at f is later m (omega arith)
+
+second-then : (n i m : ℕ) (later : List ℕ) → m < n → getD (everySecond n i ++ later) m 0 ≡ i + 2 * m
+unfolding everySecond
+second-then zero i m later l = absurd (omega arith)
+second-then (suc n) i zero later l = omega arith
+second-then (suc n) i (suc m) later l = second-then n (suc (suc i)) m later (omega arith) ∙ omega arith
+
+exponents-length : (p : ℕ) → length (orderExponents p) ≡ half p + 1
+unfolding orderExponents
+exponents-length p = length-append (everySecond (half p) 1) _ ∙ omega (arith, length-second (half p) 1)
+
+-- there is one for each exponent
+pub constants-long : (p : ℕ) (list : List ℕ) → Constants p list → half p < length list
+unfolding orderConstants
+constants-long p list c =
+    rw (c .begins) (omega (
+      arith,
+      length-append (map (orderConstant p) (orderExponents p)) (c .later),
+      length-map (orderExponents p) (orderConstant p),
+      exponents-length p,
+    ))
+
+constant-at : (p : ℕ) (list : List ℕ) (m : ℕ) → Constants p list → m < half p + 1
+    → getD list m 0 ≡ orderConstant p (getD (orderExponents p) m 0)
+unfolding orderConstants
+constant-at p list m c l = rw (c .begins) (mapped-at (orderConstant p) (orderExponents p) (c .later) m (omega (arith, exponents-length p)))
+
+pub constant-odd : (p i : ℕ) (list : List ℕ) → Constants p list → i % 2 ≡ 1 → i < p - 1 → getD list (i / 2) 0 ≡ orderConstant p i
+unfolding orderExponents
+constant-odd p i list c odd l =
+    let e : 1 + 2 * (i / 2) ≡ i = omega arith in
+    constant-at p list (i / 2) c (omega arith) ∙ ap (orderConstant p) (second-then (half p) 1 (i / 2) _ (omega arith) ∙ e)
+
+pub constant-top : (p : ℕ) (list : List ℕ) → Constants p list → getD list ((p - 1) / 2) 0 ≡ orderConstant p (p - 1)
+unfolding orderExponents
+constant-top p list c =
+    constant-at p list ((p - 1) / 2) c (omega arith)
+    ∙ ap (orderConstant p) (getD-at (everySecond (half p) 1) (p - 1) [] 0 (half p) (length-second (half p) 1))
+
+-- ---- what is left to write
+
+pub place-from : (p z i : ℕ) → powerGate p z i ≡ z + powerGate p 0 i
+place-from p z i = go (decLe i (half p))
+  where
+    go : Dec (i ≤ half p) → powerGate p z i ≡ z + powerGate p 0 i
+    go (yes l) = omega (arith, gate-low p z i l, gate-low p 0 i l)
+    go (no n) = omega (arith, gate-high p z i (lt-of-not-le n), gate-high p 0 i (lt-of-not-le n))
+
+pub terms-first : (p z k : ℕ) → 3 ≤ p
+    → terms p z k (orderExponents p) ≡ Scale z (orderConstant p 1) ∷ laterTerms p z (k + 1) k (exponentsFrom p 3)
+unfolding orderExponents everySecond
+terms-first p z k three =
+    let e : (p - 1) / 2 ≡ suc ((p - 3) / 2) = omega arith in
+    let next : k + 1 ≡ suc k = omega arith in
+    let gate : powerGate p z 1 ≡ z = gate-low p z 1 (omega arith) ∙ omega arith in
+    rw (e, next, gate)
+
+pub later-cons : (p z k sum i : ℕ) → i < p - 1
+    → laterTerms p z k sum (exponentsFrom p i)
+    ≡ Scale (z + powerGate p 0 i) (orderConstant p i) ∷ Add sum k ∷ laterTerms p z (k + 2) (k + 1) (exponentsFrom p (i + 2))
+unfolding laterTerms everySecond
+later-cons p z k sum i l =
+    let e : (p - i) / 2 ≡ suc ((p - (i + 2)) / 2) = omega arith in
+    let two : i + 2 ≡ suc (suc i) = omega arith in
+    let next : k + 1 ≡ suc k = omega arith in
+    let after : k + 2 ≡ suc (suc k) = omega arith in
+    rw (e, two, next, after, place-from p z i)
+
+pub later-top : (p z k sum i : ℕ) → p - 1 ≤ i
+    → laterTerms p z k sum (exponentsFrom p i) ≡ Scale (z + powerGate p 0 (p - 1)) (orderConstant p (p - 1)) ∷ Add sum k ∷ []
+unfolding laterTerms everySecond
+later-top p z k sum i l =
+    let e : (p - i) / 2 ≡ 0 = omega arith in
+    rw (e, place-from p z (p - 1))
+
+-- ---- the depth of their sum
+
+pub deeper-power : (i j a b : ℕ) → i ≤ j → a ≡ clog i → b ≡ clog j → max a b ≡ clog j
+deeper-power i j a b l ha hb =
+    let h : clog i ≤ clog j = clog-mono l in
+    rw (ha, hb) (max-eq-right h)

@@ -1,0 +1,29 @@
+-- `order::add_term` meets its contract: two records, one after the other; a sum is as deep as its deeper operand.
+-- Assumes nothing.
+use native.Mathlib.Omega.{arith}
+use Rattle.writer.proofs.Writing.{then}
+use borrow.Author.Needs.{needs}
+use Rattle.order.proofs.add_term.Statement.{statement}
+use Rattle.order.proofs.add_term.Tie as tie
+
+put-term-requires : tie.Need-put-term-requires
+put-term-requires c κs = search needs
+
+put-add-requires : tie.Need-put-add-requires
+put-add-requires c κs = search needs
+
+deeper-requires : tie.Need-deeper-requires
+deeper-requires c κs = search needs
+
+same-length : tie.Need-same-length
+same-length c = search needs
+
+returns : tie.Need-returns
+returns c =
+    let added = c .before .before .before in
+    let scaled = added .before .before .before .before in
+    (then (scaled .put-term .ensures .0) (added .put-add .ensures .0), (omega (arith, added, scaled), omega (arith, added, scaled)))
+
+pub add-term-spec : {M : Type 1} → statement M
+add-term-spec =
+    tie.close (tie.spec put-term-requires put-add-requires deeper-requires same-length returns)

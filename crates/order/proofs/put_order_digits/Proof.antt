@@ -1,0 +1,140 @@
+-- `order::put_order_digits` meets its contract. The invariant: the digits that are left to write give all of them, and begin at the next free gate.
+-- The measure is how many are left.
+-- Assumes nothing.
+use mathlib.Core.Path.{_≡_, refl, sym, ap, _∙_}
+use mathlib.Core.List.{List}
+use Prim.Native.Nat.{ℕ, _+_, _-_, _%_, _≤_, _<_}
+use native.Mathlib.Omega.{arith}
+use native.Mathlib.Numerals.{add-one}
+use borrow.Author.Needs.{needs}
+use lib.ListN.{length, length-append}
+use Rattle.field.specs.Logarithm.{clog}
+use Rattle.comparison.specs.Condition.{Condition}
+use Rattle.comparison.specs.Digits.{digitGates, digitStart, digitsFrom}
+use Rattle.comparison.proofs.Digits.{digit-next, start-first}
+use Rattle.writer.specs.declared.Pen.{Pen}
+use Rattle.writer.specs.Pen.{Wrote}
+use Rattle.writer.proofs.Writing.{none, same-gates, then}
+use Rattle.order.specs.Slots.{orderCondition}
+use Rattle.order.proofs.Digit.{digits-cons}
+use Rattle.order.proofs.put_order_digits.Statement.{statement}
+use Rattle.order.proofs.put_order_digits.Tie as tie
+
+-- the next digit has room, and what is left after it is what is left
+fits : (p : ℕ) (c : Condition) (k n j next : ℕ) → j < n → next ≡ digitStart p c k j
+    → next + length (digitsFrom p c k (n - j) j) ≡ k + length (digitsFrom p c k n 0)
+    → next + length (digitGates p c j next) + length (digitsFrom p c k (n - (j + 1)) (j + 1)) ≡ k + length (digitsFrom p c k n 0)
+fits p c k n j next l here all =
+    omega (
+      arith,
+      ap length (digits-cons p c k n j l) ∙ length-append (digitGates p c j (digitStart p c k j)) _,
+      ap (λ (x : ℕ). length (digitGates p c j x)) here,
+    )
+
+-- the digit after it begins where it ends
+onward : (p : ℕ) → 3 ≤ p → p % 2 ≡ 1 → (c : Condition) (k j next next′ : ℕ) → next ≡ digitStart p c k j
+    → next′ ≡ next + length (digitGates p c j next) → next′ ≡ digitStart p c k (j + 1)
+onward p three odd c k j next next′ here more =
+    more
+    ∙ ap (λ (x : ℕ). x + length (digitGates p c j x)) here
+    ∙ digit-next p three odd c k j
+    ∙ ap (digitStart p c k) (sym (add-one j))
+
+abbrev Inv-loop : tie.InvT-loop
+Inv-loop table₀ p backward slots constants depths₀ last₀ j₀ table depths last j =
+    let c = orderCondition backward slots in
+    let k = last₀ .pen .next in
+    (j ≤ slots .count) × (last .pen .next ≡ digitStart p c k j)
+    × (last .pen .next + length (digitsFrom p c k (slots .count - j) j) ≡ k + length (digitsFrom p c k (slots .count) 0))
+    × (last .pen .products ≤ last .pen .next) × (last .pen .squares ≤ last .pen .next) × (length table ≡ length table₀)
+    × (length depths ≡ length depths₀) × (1 ≤ j → last .node .depth ≡ clog (p - 1))
+    × ((table′ : List ℕ) (pen′ : Pen) → Wrote table (last .pen) (digitsFrom p c k (slots .count - j) j) table′ pen′
+    → Wrote table₀ (last₀ .pen) (digitsFrom p c k (slots .count) 0) table′ pen′)
+
+abbrev μ-loop : tie.MeasureT-loop
+μ-loop table₀ p backward slots constants depths₀ last₀ j₀ table depths last j = slots .count - j
+
+loop-holds : tie.Need-loop-holds Inv-loop μ-loop
+loop-holds c =
+    let s = c .before .before .before in
+    let a = s .args in
+    let first = start-first (a .p) (s .pre .0 .1) (s .pre .0 .2) (orderCondition (a .backward) (a .slots)) (a .pen .next) in
+    let all : a .slots .count - 0 ≡ a .slots .count = omega arith in (
+      omega arith,
+      sym first,
+      ap (λ (n : ℕ). a .pen .next + length (digitsFrom (a .p) (orderCondition (a .backward) (a .slots)) (a .pen .next) n 0)) all,
+      omega arith,
+      omega arith,
+      refl,
+      refl,
+      λ some. absurd (omega arith),
+      λ table′ pen′ w. same-gates (ap (λ (n : ℕ). digitsFrom (a .p) (orderCondition (a .backward) (a .slots)) (a .pen .next) n 0) all) w,
+    )
+
+put-order-digit-requires : tie.Need-put-order-digit-requires Inv-loop μ-loop
+put-order-digit-requires c κs =
+    let l = c .before .before .before .before in
+    let s = l .before .before .before .before in
+    let room = fits (s .args .p) (orderCondition (s .args .backward) (s .args .slots)) (s .args .pen .next) (s .args .slots .count) (l .loop .j) (l .loop .last .pen .next) (omega arith) (l .loop .inv .1) (l .loop .inv .2) in
+    (omega (arith, room, l .loop .inv, s .pre), (s .pre .1 .0, omega (arith, l .loop .inv .6, s .pre .1 .1)))
+
+add-j : tie.Need-add-j Inv-loop μ-loop
+add-j c = search needs
+
+loop-less : tie.Need-loop-less Inv-loop μ-loop
+loop-less c = search needs
+
+loop-again : tie.Need-loop-again Inv-loop μ-loop
+loop-again c =
+    let w = c .before .before .before .before in
+    let l = w .before .before .before .before .before in
+    let s = l .before .before .before .before in
+    let d = orderCondition (s .args .backward) (s .args .slots) in
+    let room = fits (s .args .p) d (s .args .pen .next) (s .args .slots .count) (l .loop .j) (l .loop .last .pen .next) (omega arith) (l .loop .inv .1) (l .loop .inv .2) in
+    let e = w .put-order-digit .ensures in
+    let first = same-gates (ap (digitGates (s .args .p) d (l .loop .j)) (l .loop .inv .1)) (e .0) in (
+      omega arith,
+      onward (s .args .p) (s .pre .0 .1) (s .pre .0 .2) d (s .args .pen .next) (l .loop .j) _ _ (l .loop .inv .1) (e .1 .0 .0),
+      omega (arith, room, e .1 .0),
+      omega (arith, e .1 .0),
+      omega (arith, e .1 .0),
+      omega (arith, l .loop .inv .5, w),
+      omega (arith, l .loop .inv .6, w),
+      λ some. e .1 .1,
+      λ table′ pen′ rest.
+          l .loop .inv .8 table′ pen′
+          (same-gates (sym (digits-cons (s .args .p) d (s .args .pen .next) (s .args .slots .count) (l .loop .j) (omega arith))) (then first rest)),
+    )
+
+same-length : tie.Need-same-length Inv-loop μ-loop
+same-length c = c .before .before .loop .inv .5
+
+same-length-2 : tie.Need-same-length-2 Inv-loop μ-loop
+same-length-2 c = c .before .before .loop .inv .6
+
+returns : tie.Need-returns Inv-loop μ-loop
+unfolding digitsFrom
+returns c =
+    let l = c .before .before in
+    let s = l .before .before .before .before in
+    let end : s .args .slots .count - l .loop .j ≡ 0 = omega arith in
+    let d = orderCondition (s .args .backward) (s .args .slots) in
+    let done : length (digitsFrom (s .args .p) d (s .args .pen .next) (s .args .slots .count - l .loop .j) (l .loop .j)) ≡ 0 = rw end in (
+      l .loop .inv .8 _ _ (same-gates (sym (ap (λ (n : ℕ). digitsFrom (s .args .p) d (s .args .pen .next) n (l .loop .j)) end)) none),
+      (omega (arith, done, l .loop .inv), l .loop .inv .7 (omega arith)),
+    )
+
+pub put-order-digits-spec : {M : Type 1} → statement M
+put-order-digits-spec =
+    tie.close
+    (tie.spec
+    Inv-loop
+    μ-loop
+    loop-holds
+    put-order-digit-requires
+    add-j
+    loop-less
+    loop-again
+    same-length
+    same-length-2
+    returns)
