@@ -1,2 +1,4 @@
--- Laws of writing.
+-- Laws of writing, of the factors of a product tree, and of writing the tree.
 pub mod Writing
+pub mod Factors
+pub mod ProductTree

@@ -1,0 +1,57 @@
+-- What a card says, from what its records were read as: its slots are the digits that were added up, and 10 is tested on them.
+-- Assumes nothing.
+use mathlib.Core.Path.{_≡_, refl, sym, ap, _∙_}
+use mathlib.Core.Bool.{Bool, true, false}
+use mathlib.Core.List.{List}
+use Prim.Native.Nat.{ℕ, zero, suc, _+_, _-_}
+use native.Mathlib.Omega.{arith}
+use lib.Dec.{ltb}
+use lib.ListN.{length, take, drop, length-drop}
+use lib.Seq.{take-all}
+use Rattle.answer.specs.Outcome.{Answer, refused, accepted, refuse, onAnswer}
+use Rattle.answer.proofs.Outcome.{answered, accepted-same, was-refused}
+use Rattle.digits.specs.Number.{mostDigits}
+use Rattle.comparison.specs.Condition.{Condition}
+use Rattle.query.specs.Card.{Card, slotsOf}
+use Rattle.query.specs.Reading.{readCondition, readConditions, readSlots}
+use Rattle.card.specs.Parts.{Summary, summary, readSlotCount, withinSlots}
+
+-- as many conditions are read as there should be
+read-length : (slot count : ℕ) (bytes : List ℕ) (cs : List Condition) → readConditions slot count bytes ≡ accepted cs → length cs ≡ count
+unfolding readConditions
+read-length slot zero bytes cs e = ap length (sym (accepted-same e))
+read-length slot (suc count) bytes cs e =
+    let first = answered (readCondition slot bytes) _ e in
+    let others = answered (readConditions (slot + first .0 .digits) count (drop 4 bytes)) _ (first .2) in
+    ap length (sym (accepted-same (others .2)))
+    ∙ ap suc (read-length (slot + first .0 .digits) count (drop 4 bytes) (others .0) (others .1))
+
+-- what a card says whose prime, weight and condition count are known, from the bytes of its records
+abbrev pub telling : ℕ → ℕ → ℕ → List ℕ → Answer Summary
+telling p s count records =
+    onAnswer (onAnswer (readConditions 0 count records) refused (readSlots p s)) refused (λ card. accepted (summary card))
+
+-- the records of a card, as the code lends them
+pub records-lent : (bytes : List ℕ) → take (length bytes - 6) (drop 6 bytes) ≡ drop 6 bytes
+records-lent bytes = take-all (length bytes - 6) (drop 6 bytes) (rw length-drop (omega arith))
+
+limited : (test : Bool) (card : Card) → refuse test (refused 10) (accepted (summary card))
+    ≡ onAnswer (refuse test (refused 10) (accepted card)) refused (λ card. accepted (summary card))
+limited true card = refl
+limited false card = refl
+
+module _ (p s count : ℕ) (records : List ℕ) where
+  pub told-refused : (number : ℕ) → refused number ≡ readSlotCount count records → refused number ≡ telling p s count records
+  told-refused number e = rw (was-refused number (readConditions 0 count records) slotsOf e)
+
+  -- the conditions that were read
+  told : (cs : List Condition) (slots : ℕ) → readConditions 0 count records ≡ accepted cs → slotsOf cs ≡ slots → length cs ≡ count
+      → withinSlots (record { prime = p; weight = s; count = count; slots = slots }) ≡ telling p s count records
+  told cs slots e sum size =
+      rw (e, ← sum, ← size) (limited (ltb mostDigits (slotsOf cs)) (record { prime = p; weight = s; conditions = cs }))
+
+  pub told-slots : (slots : ℕ) → accepted slots ≡ readSlotCount count records
+      → withinSlots (record { prime = p; weight = s; count = count; slots = slots }) ≡ telling p s count records
+  told-slots slots e =
+      let read = answered (readConditions 0 count records) (λ cs. accepted (slotsOf cs)) (sym e) in
+      told (read .0) slots (read .1) (accepted-same (read .2)) (read-length 0 count records (read .0) (read .1))
