@@ -1,9 +1,9 @@
 -- What a card says, from what its records were read as: its slots are the digits that were added up, and 10 is tested on them.
 -- Assumes nothing.
-use mathlib.Core.Path.{_≡_, refl, sym, ap, _∙_}
+use mathlib.Core.Path.{_≡_, refl, sym}
 use mathlib.Core.Bool.{Bool, true, false}
 use mathlib.Core.List.{List}
-use Prim.Native.Nat.{ℕ, zero, suc, _+_, _-_}
+use Prim.Native.Nat.{ℕ, _-_}
 use native.Mathlib.Omega.{arith}
 use lib.Dec.{ltb}
 use lib.ListN.{length, take, drop, length-drop}
@@ -13,18 +13,9 @@ use Rattle.answer.proofs.Outcome.{answered, accepted-same, was-refused}
 use Rattle.digits.specs.Number.{mostDigits}
 use Rattle.comparison.specs.Condition.{Condition}
 use Rattle.query.specs.Card.{Card, slotsOf}
-use Rattle.query.specs.Reading.{readCondition, readConditions, readSlots}
+use Rattle.query.specs.Reading.{readConditions, readSlots}
+use Rattle.query.proofs.Reading.{conditions-placed}
 use Rattle.card.specs.Parts.{Summary, summary, readSlotCount, withinSlots}
-
--- as many conditions are read as there should be
-read-length : (slot count : ℕ) (bytes : List ℕ) (cs : List Condition) → readConditions slot count bytes ≡ accepted cs → length cs ≡ count
-unfolding readConditions
-read-length slot zero bytes cs e = ap length (sym (accepted-same e))
-read-length slot (suc count) bytes cs e =
-    let first = answered (readCondition slot bytes) _ e in
-    let others = answered (readConditions (slot + first .0 .digits) count (drop 4 bytes)) _ (first .2) in
-    ap length (sym (accepted-same (others .2)))
-    ∙ ap suc (read-length (slot + first .0 .digits) count (drop 4 bytes) (others .0) (others .1))
 
 -- what a card says whose prime, weight and condition count are known, from the bytes of its records
 abbrev pub telling : ℕ → ℕ → ℕ → List ℕ → Answer Summary
@@ -54,4 +45,4 @@ module _ (p s count : ℕ) (records : List ℕ) where
       → withinSlots (record { prime = p; weight = s; count = count; slots = slots }) ≡ telling p s count records
   told-slots slots e =
       let read = answered (readConditions 0 count records) (λ cs. accepted (slotsOf cs)) (sym e) in
-      told (read .0) slots (read .1) (accepted-same (read .2)) (read-length 0 count records (read .0) (read .1))
+      told (read .0) slots (read .1) (accepted-same (read .2)) (conditions-placed 0 count records (read .0) (read .1) .0)

@@ -33,7 +33,7 @@ pub const HEAD: usize = 6;
 pub const RECORD: usize = 4;
 
 // The most conditions of a card.
-const MOST_CONDITIONS: usize = 8;
+pub const MOST_CONDITIONS: usize = 8;
 
 // The relations between left and right, in the order of their numbers.
 pub enum Relation {

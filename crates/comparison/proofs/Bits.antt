@@ -62,7 +62,7 @@ unfoldable pub worth : List Bool → ℕ
 worth [] = 0
 worth (b ∷ bs) = bit b + 2 * worth bs
 
-bit-of : (n : ℕ) → n < 2 → bit (eqb n 1) ≡ n
+pub bit-of : (n : ℕ) → n < 2 → bit (eqb n 1) ≡ n
 bit-of zero h = refl
 bit-of (suc zero) h = refl
 bit-of (suc (suc n)) h = absurd (omega arith)

@@ -6,6 +6,7 @@ use mathlib.Core.Bool.{Bool, true, false}
 use mathlib.Core.List.{List, [], _∷_, _++_}
 use Prim.Native.Nat.{ℕ, zero, suc, _+_, _-_, _*_, _/_, _%_, _≤_, _<_}
 use native.Mathlib.Omega.{arith}
+use native.Mathlib.Numerals.{add-one}
 use native.Mathlib.Nat.{add-zero, zero-add, add-suc, suc-add}
 use lib.ListN.{length, length-append}
 use Rattle.field.specs.Bit.{bit}
@@ -25,6 +26,14 @@ use Rattle.comparison.specs.OrderDigit.{half, lessGates, equalGates, equ
 use Rattle.comparison.specs.Relation.{isOrder, isBackward}
 use Rattle.comparison.proofs.EqualityDigit.{zero-length, zero-fits, zero-count}
 use Rattle.comparison.proofs.OrderDigit.{less-length, less-count, less-fits, equal-fits}
+
+-- the digits that are left: the next one, and those after it
+pub digits-cons : (p : ℕ) (c : Condition) (k n j : ℕ) → j < n
+    → digitsFrom p c k (n - j) j ≡ digitGates p c j (digitStart p c k j) ++ digitsFrom p c k (n - (j + 1)) (j + 1)
+unfolding digitsFrom
+digits-cons p c k n j l =
+    let e : n - j ≡ suc (n - (j + 1)) = omega arith in
+    rw (e, add-one j)
 
 module _ (p : ℕ) (three : 3 ≤ p) (odd : p % 2 ≡ 1) where
   -- ---- where each digit stands

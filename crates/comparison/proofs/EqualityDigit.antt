@@ -126,7 +126,7 @@ zero-value p left right E k h s =
         mod-same p (mulMod-is p a b some) ∙ mod-mod _ p ∙ mul-cong p a _ b _ f g ∙ mod-same p (sym (pow-add _ e (2 ^ j)))
 
 -- the depth of the e-th power, e at most 2^j, times the 2^j-th
-deeper : (a b e j : ℕ) → 1 ≤ e → e ≤ 2 ^ j → a ≡ clog e → b ≡ clog (2 ^ j) → suc (max a b) ≡ clog (e + 2 ^ j)
+pub deeper : (a b e j : ℕ) → 1 ≤ e → e ≤ 2 ^ j → a ≡ clog e → b ≡ clog (2 ^ j) → suc (max a b) ≡ clog (e + 2 ^ j)
 deeper a b e j l m f g =
     let top = clog-power j in
     let low = clog-iff e j .0 m in
@@ -181,7 +181,7 @@ chain-length (false ∷ bs) k running c = omega (arith, chain-length bs (suc k) 
 chain-length (true ∷ bs) k running nothing = omega (arith, chain-length bs (suc k) k (power k))
 chain-length (true ∷ bs) k running (power collected) = omega (arith, chain-length bs (suc (suc k)) k (power (suc k)))
 
-start-length : (bs : List Bool) (k z : ℕ) → 1 ≤ set bs → suc (length (zeroChain bs k z)) ≡ length bs + set bs
+pub start-length : (bs : List Bool) (k z : ℕ) → 1 ≤ set bs → suc (length (zeroChain bs k z)) ≡ length bs + set bs
 unfolding set
 start-length [] k z some = absurd (omega arith)
 start-length (false ∷ bs) k z some = omega (arith, chain-length bs k z nothing)

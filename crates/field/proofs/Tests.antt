@@ -2,8 +2,9 @@
 -- Assumes nothing.
 use mathlib.Core.Path.{_≡_, refl, sym, _∙_}
 use mathlib.Core.Logic.{_↔_}
-use mathlib.Core.Bool.{Bool, true, false, _&&_, _||_, false≢true, true≢false}
-use Prim.Native.Nat.{ℕ, _≤_, _<_}
+use mathlib.Core.Bool.{Bool, true, false, not, _&&_, _||_, false≢true, true≢false}
+use Prim.Native.Nat.{ℕ, zero, suc, _≤_, _<_, zero-le}
+use native.Mathlib.Omega.{arith}
 use borrow.Author.Tests.{ltb-true, ltb-false, lt-ltb, le-ltb, eqb-true, eqb-false, eq-eqb, ne-eqb}
 use lib.Dec.{ltb, eqb}
 
@@ -23,6 +24,11 @@ in-range x low high t =
 -- and back
 pub in-range-false : (x low high : ℕ) → low ≤ x → x ≤ high → (ltb x low || ltb high x) ≡ false
 in-range-false x low high l h = rw (le-ltb x low l, le-ltb high x h)
+
+-- a number in the range from 0 to 0
+pub zero-only : (x : ℕ) → not (eqb x 0) ≡ (ltb x 0 || ltb 0 x)
+zero-only zero = refl
+zero-only (suc x) = rw (ne-eqb (suc x) 0 (λ e. omega arith), le-ltb (suc x) 0 zero-le, lt-ltb 0 (suc x) (omega arith))
 
 pub ltb-same : (a b c d : ℕ) → (a < b → c < d) → (b ≤ a → d ≤ c) → ltb a b ≡ ltb c d
 ltb-same a b c d less more = go (ltb a b) refl

@@ -3,15 +3,13 @@
 use mathlib.Core.Path.{_≡_, refl, sym, ap, _∙_}
 use mathlib.Core.Bool.{Bool, true, false}
 use mathlib.Core.List.{List, [], _∷_, _++_}
-use Prim.Native.Nat.{ℕ, zero, suc, _+_, _-_, _%_, _≤_, _<_}
+use Prim.Native.Nat.{ℕ, zero, suc, _+_, _-_, _%_, _≤_}
 use native.Mathlib.Omega.{arith}
-use native.Mathlib.Numerals.{add-one}
 use lib.ListN.{length, length-append}
 use Rattle.field.specs.Polynomials.{orderExponents}
 use Rattle.circuit.specs.Gate.{Left, Right, Flip}
-use Rattle.comparison.specs.Condition.{Condition}
 use Rattle.comparison.specs.Difference.{minus, zGate}
-use Rattle.comparison.specs.Digits.{digitGates, digitStart, digitsFrom}
+use Rattle.comparison.specs.Digits.{digitGates}
 use Rattle.comparison.specs.OrderDigit.{powerGate, powers, powerCount, terms, termStart, lessGates, equalGates}
 use Rattle.comparison.proofs.OrderDigit.{less-length}
 use Rattle.writer.specs.declared.Pen.{Pen}
@@ -55,11 +53,3 @@ digit-wrote p backward slots j {pen = pen} {pen₂ = pen₂} differed three rais
     let sum = same-gates (ap (λ (k : ℕ). terms p (zGate (pen .next)) k (orderExponents p)) start) (rw z at summed) in
     let less = then (rw z at raised) sum in
     same-gates (sym (digit-is p backward slots j (pen .next))) (then differed (then less ended))
-
--- the digits that are left: the next one, and those after it
-pub digits-cons : (p : ℕ) (c : Condition) (k n j : ℕ) → j < n
-    → digitsFrom p c k (n - j) j ≡ digitGates p c j (digitStart p c k j) ++ digitsFrom p c k (n - (j + 1)) (j + 1)
-unfolding digitsFrom
-digits-cons p c k n j l =
-    let e : n - j ≡ suc (n - (j + 1)) = omega arith in
-    rw (e, add-one j)

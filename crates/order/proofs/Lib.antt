@@ -2,3 +2,4 @@
 pub mod Powers
 pub mod Terms
 pub mod Digit
+pub mod Whole

@@ -9,14 +9,16 @@ ghost use Prim.Native.Nat.{ℕ, suc, _+_, _-_, _*_, _/_, _%_, _≤_, _<_, max};
 ghost use lib.ListN.{length, getD, set};
 ghost use Rattle.field.specs.Logarithm.{clog};
 ghost use Rattle.field.specs.Polynomials.{orderExponents};
+ghost use Rattle.digits.specs.Number.{mostDigits};
 ghost use Rattle.circuit.specs.Gate.{Scale, Add};
 ghost use Rattle.circuit.specs.Table.{mostGates};
 ghost use Rattle.comparison.specs.Digits.{digitGates, digitsFrom};
 ghost use Rattle.comparison.specs.OrderDigit.{half as halfOf, lowExponents, oddExponents, nextOdd, powerOf, powers, powerCount, powerGate, terms, lessGates, equalGates};
+ghost use Rattle.writer.specs.Nodes.{nodeIs};
 ghost use Rattle.writer.specs.Pen.{Wrote, Room, Moved};
 ghost use Rattle.order.specs.Constants.{Constants};
 ghost use Rattle.order.specs.Powers.{Deep};
-ghost use Rattle.order.specs.Slots.{orderCondition};
+ghost use Rattle.order.specs.Slots.{orderCondition, orderSegment};
 
 // Room for the depths of z and its powers, for any odd p below 256.
 pub const MOST_POWERS: usize = 192;
@@ -242,4 +244,25 @@ fn put_order_digits(
         j += 1;
     }
     last
+}
+
+// An order condition but for its last FLIP: its digits, then their joining. The node is L of the whole.
+pub fn put_order(
+    table: &mut [u8],
+    pen: Pen,
+    p: u16,
+    backward: bool,
+    slots: Slots,
+    constants: &[u8],
+    depths: &mut [u16],
+) -> Written
+    requires { ⌜ Room (now table) pen (length (orderSegment p backward slots (pen .next) .gates)) × (3 ≤ p) × (p % 2 ≡ 1) × (p < 256) × (1 ≤ slots .count) × (slots .count ≤ mostDigits) × (slots .left + slots .count ≤ mostDigits) × (slots .right + slots .count ≤ mostDigits) ⌝ }
+    requires { ⌜ Constants p (now constants) × (powerCount p < length (now depths)) ⌝ }
+    ensures wrote { λ r. ⌜ Wrote (now (table .entry)) pen (orderSegment p backward slots (pen .next) .gates) (now (table .exit)) (r .pen) ⌝ }
+    ensures moves { λ r. ⌜ Moved pen (length (orderSegment p backward slots (pen .next) .gates)) (r .pen) ⌝ }
+    ensures output { λ r. ⌜ nodeIs (r .node) ≡ orderSegment p backward slots (pen .next) .output ⌝ }
+{
+    let k = pen.next;
+    let digits = put_order_digits(table, pen, p, backward, slots, constants, depths);
+    joining::join_digits(table, digits.pen, p, k, slots.count, digits.node.depth)
 }

@@ -8,9 +8,12 @@ use mathlib.Core.List.{List, map, map-map}
 use Prim.Native.Nat.{ℕ, suc, _-_, _*_, _%_, _^_, _≤_, _<_}
 use native.Mathlib.Omega.{arith}
 use native.Mathlib.Nat.{le-refl, zero-add, mod-eq-of-lt}
+use borrow.Author.Tests.{ltb-false}
+use lib.Dec.{ltb}
 use lib.ListN.{length, length-append, drop}
-use Rattle.answer.specs.Outcome.{accepted, Outcome}
+use Rattle.answer.specs.Outcome.{accepted, Outcome, unaltered}
 use Rattle.answer.specs.Report.{Report}
+use Rattle.answer.proofs.Outcome.{passed, accepted-same}
 use Rattle.field.specs.Bit.{bit}
 use Rattle.field.specs.Logarithm.{clog}
 use Rattle.field.specs.Sum.{total}
@@ -26,8 +29,9 @@ use Rattle.circuit.specs.Factors.{InOrder, breadth, product}
 use Rattle.circuit.specs.Gate.{Gate}
 use Rattle.circuit.specs.Meaning.{entries, entryAt, output}
 use Rattle.circuit.specs.ProductTree.{productTree}
+use Rattle.circuit.specs.Report.{report}
 use Rattle.circuit.specs.Segment.{Node, Segment}
-use Rattle.circuit.specs.Table.{Head, allFit, wellFormed, mostGates}
+use Rattle.circuit.specs.Table.{Head, Table, allFit, wellFormed, mostGates}
 use Rattle.circuit.specs.Value.{values}
 use Rattle.circuit.proofs.Bounds.{values-below}
 use Rattle.circuit.proofs.Count.{count-append}
@@ -35,7 +39,8 @@ use Rattle.circuit.proofs.Every.{every-map, every-map₂, map-same}
 use Rattle.circuit.proofs.Fitting.{fit-append}
 use Rattle.circuit.proofs.Kraft.{at-least}
 use Rattle.circuit.proofs.ProductTree.{tree-last, product-fits, product-count, product-value, product-depth}
-use Rattle.circuit.proofs.Promises.{checks-tables, trims-tables, run-accepts}
+use Rattle.circuit.proofs.Promises.{reads-back, checks-tables, trims-tables, run-accepts}
+use Rattle.circuit.proofs.TreeDepth.{tree-depth}
 use Rattle.circuit.proofs.WellFormed.{is-well-formed}
 use Rattle.comparison.specs.Condition.{Condition}
 use Rattle.comparison.specs.Formulas.{conditionSize, conditionProducts, conditionSquares, conditionCost, costSummand}
@@ -44,7 +49,7 @@ use Rattle.query.specs.Card.{Card, slotsOf}
 use Rattle.query.specs.Formulas.{overConditions, gateCount, depthFormula, productCount, squareCount, costSum}
 use Rattle.query.specs.Holds.{allHold}
 use Rattle.query.specs.Outcomes.{tableRoom}
-use Rattle.query.specs.Promises.{gatesOf, RightAnswer, ExactDepth, outputGates, NoShallowerTree, BoundedCost, ExactCost, ExactCounts, ExactSize, SameReport, ReportedNumbers, TrimsToTable, RunsTheTable, RightRun}
+use Rattle.query.specs.Promises.{gatesOf, RightAnswer, ExactDepth, outputGates, NoShallowerTree, BoundedCost, ExactCost, ExactCounts, ExactSize, SameReport, ReportedNumbers, TrimsToTable, RunsTheTable, RightRun, Built, BuildsWithRoom, BuiltValue, BuiltDepth, BuiltCost}
 use Rattle.query.specs.Reading.{readCard}
 use Rattle.query.specs.Whole.{Draft, begin, filled, tableOf}
 use Rattle.query.proofs.Building.{built}
@@ -234,6 +239,12 @@ right-answer bytes left right card e l r = right-value bytes card e left right (
 pub exact-depth : ExactDepth
 exact-depth bytes card e = formula-depth bytes card e
 
+-- the node of the product tree tells the depth of the table
+pub output-tells : (bytes : List ℕ) (card : Card) → readCard bytes ≡ accepted card
+    → productTree (length (filled card .gates)) (filled card .outputs) .output .depth ≡ depth (gatesOf card)
+output-tells bytes card e =
+    tree-depth (length (filled card .gates)) (filled card .outputs) (some bytes card e) ∙ sym (depth-is bytes card e)
+
 pub no-shallower-tree : NoShallowerTree
 no-shallower-tree bytes card tree e same =
     rw (depth-is bytes card e, ← gates-breadth bytes card e) (at-least (entryAt depths (gatesOf card)) (outputGates card) tree same)
@@ -289,3 +300,35 @@ right-run bytes lent left right work card e room l r enough =
     let hr = below-weaken (base p) p right low (r .1) in
     runs-the-table bytes lent left right work card e room (l .0) (r .0) hl hr enough
     ∙ ap accepted (right-answer bytes left right card e l r)
+
+-- ---- Build's outcome
+
+pub builds-with-room : BuildsWithRoom
+builds-with-room bytes lent card e room =
+    let table = tableOf card in
+    let b = built bytes lent card e room in
+    (e, ap (λ (o : Outcome Report). o .answer) b, rw b (reads-back table (drop (tableRoom table) lent) (formed bytes card e)))
+
+-- a report is answered only with room, and then it is that of the card's table, which the bytes left hold
+built-is : (bytes lent : List ℕ) (card : Card) (told : Report) (table : Table) → Built bytes lent card told table
+    → (told ≡ report (tableOf card)) × (table ≡ tableOf card)
+built-is bytes lent card told table b =
+    let e = b .0 in
+    let test = ltb (length lent) (tableRoom (tableOf card)) in
+    let answered = rw e at (b .1) in
+    let room = passed (λ (o : Outcome Report). o .answer) test (unaltered lent 11) _ refl answered in
+    let whole = builds-with-room bytes lent card e (ltb-false (length lent) (tableRoom (tableOf card)) (room .0)) in
+    (accepted-same (sym (b .1) ∙ whole .1), accepted-same (sym (b .2) ∙ whole .2))
+
+pub built-value : BuiltValue
+built-value bytes lent left right card told table b l r = rw (built-is bytes lent card told table b .1) (right-answer bytes left right card (b .0) l r)
+
+pub built-depth : BuiltDepth
+built-depth bytes lent card told table b =
+    let same = built-is bytes lent card told table b in
+    rw (same .0, same .1) (refl, exact-depth bytes card (b .0), λ tree leaves. no-shallower-tree bytes card tree (b .0) leaves)
+
+pub built-cost : BuiltCost
+built-cost bytes lent card told table b =
+    let same = built-is bytes lent card told table b in
+    rw (same .0, same .1) (refl, refl, refl, bounded-cost bytes card (b .0))

@@ -175,7 +175,7 @@ conditions-cons slot count bytes cs e =
     (first .0, others .0, sym (accepted-same (others .2)), says slot bytes (first .0) (first .1), others .1)
 
 -- the conditions that were read are as many as there should be, and each has its slots
-conditions-placed : (slot count : ℕ) (bytes : List ℕ) (cs : List Condition) → readConditions slot count bytes ≡ accepted cs
+pub conditions-placed : (slot count : ℕ) (bytes : List ℕ) (cs : List Condition) → readConditions slot count bytes ≡ accepted cs
     → (length cs ≡ count) × (inSlots slot cs ≡ true)
 unfolding readConditions inSlots
 conditions-placed slot zero bytes cs e = rw (← accepted-same e) (refl, refl)

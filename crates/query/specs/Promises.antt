@@ -8,6 +8,7 @@ use mathlib.Core.List.{List, _++_, map, List·Permᴰ}
 use Prim.Native.Nat.{ℕ, _≤_}
 use lib.ListN.{length}
 use Rattle.answer.specs.Outcome.{accepted}
+use Rattle.answer.specs.Report.{Report}
 use Rattle.field.specs.Bit.{bit}
 use Rattle.digits.specs.Number.{base, allBelow}
 use Rattle.circuit.specs.Count.{products, squares, cost}
@@ -16,9 +17,10 @@ use Rattle.circuit.specs.Every.{Every}
 use Rattle.circuit.specs.Gate.{Gate}
 use Rattle.circuit.specs.Meaning.{entryAt, output}
 use Rattle.circuit.specs.Outcomes.{checking, trimming, running}
+use Rattle.circuit.specs.Reading.{reading}
 use Rattle.circuit.specs.Report.{report}
 use Rattle.circuit.specs.Segment.{Node}
-use Rattle.circuit.specs.Table.{tableBytes, wellFormed, mostGates}
+use Rattle.circuit.specs.Table.{Table, tableBytes, wellFormed, mostGates}
 use Rattle.circuit.specs.Tree.{Tree, leaves, height}
 use Rattle.circuit.specs.Value.{values}
 use Rattle.comparison.specs.Condition.{Condition}
@@ -124,3 +126,41 @@ RightRun =
     → Side card left → Side card right → length (gatesOf card) ≤ length work
     → running (building bytes lent .lent) left right work .answer
     ≡ accepted (bit (allHold (base (card .prime)) left right (card .conditions)))
+
+-- Build's outcome on an accepted card, where it answers a report: that report, and the table in the bytes that it leaves.
+-- `build` answers and leaves this outcome, so these are promises about `build`
+abbrev pub Built : List ℕ → List ℕ → Card → Report → Table → Type 0
+Built bytes lent card told table =
+    (readCard bytes ≡ accepted card)
+    × (building bytes lent .answer ≡ accepted told)
+    × (reading (building bytes lent .lent) ≡ accepted table)
+
+-- wherever there is room
+abbrev pub BuildsWithRoom : Type 0
+BuildsWithRoom =
+    (bytes lent : List ℕ) (card : Card) → readCard bytes ≡ accepted card → tableRoom (tableOf card) ≤ length lent
+    → Built bytes lent card (report (tableOf card)) (tableOf card)
+
+-- the value of the last gate is 1 exactly when all conditions hold, and 0 otherwise
+abbrev pub BuiltValue : Type 0
+BuiltValue =
+    (bytes lent left right : List ℕ) (card : Card) (told : Report) (table : Table) → Built bytes lent card told table
+    → Side card left → Side card right
+    → output (values (card .prime) left right) (table .gates) ≡ bit (allHold (base (card .prime)) left right (card .conditions))
+
+-- "The reported depth is the table's own. It is exactly ..", and every tree over the same outputs is at least as deep
+abbrev pub BuiltDepth : Type 0
+BuiltDepth =
+    (bytes lent : List ℕ) (card : Card) (told : Report) (table : Table) → Built bytes lent card told table
+    → (told .depth ≡ depth (table .gates))
+    × (told .depth ≡ depthFormula card)
+    × ((tree : Tree ℕ) → List·Permᴰ (leaves tree) (outputGates card) → told .depth ≤ height (entryAt depths (table .gates)) tree)
+
+-- "The reported cost is 100 for each product of two different gates plus s for each square in the table. It is at most .."
+abbrev pub BuiltCost : Type 0
+BuiltCost =
+    (bytes lent : List ℕ) (card : Card) (told : Report) (table : Table) → Built bytes lent card told table
+    → (told .products ≡ products (table .gates))
+    × (told .squares ≡ squares (table .gates))
+    × (told .cost ≡ cost (card .weight) (table .gates))
+    × (told .cost ≤ costBound card)

@@ -280,7 +280,7 @@ fn read_gate(bytes: &[u8], head: TableHead, earlier: &[u16]) -> Added
 }
 
 // 100 for each product and the weight for each square.
-fn cost_of(products: u32, squares: u32, weight: u8) -> Cost
+pub fn cost_of(products: u32, squares: u32, weight: u8) -> Cost
     requires { ⌜ products + squares ≤ mostGates ⌝ }
     ensures { λ r. ⌜ r .0 ≡ 100 * products + weight * squares ⌝ }
 {

@@ -1,16 +1,16 @@
 -- `card::read_card` meets its contract: at each return the tests on the way pick the line of `readCard`.
 -- Assumes nothing.
-use mathlib.Core.Path.{_≡_, refl, sym, ap, _∙_}
-use mathlib.Core.Bool.{true, false, not, _||_}
+use mathlib.Core.Path.{_≡_, sym, ap, _∙_}
+use mathlib.Core.Bool.{true, false, not}
 use mathlib.Core.List.{List}
-use Prim.Native.Nat.{ℕ, zero, suc, _+_, _*_, zero-le}
+use Prim.Native.Nat.{ℕ, _+_, _*_}
 use native.Mathlib.Omega.{arith}
 use borrow.Author.Tests.{eq-eqb, ne-eqb, not-true, not-false, lt-ltb, le-ltb}
 use borrow.Author.Needs.{needs}
 use lib.Dec.{ltb, eqb}
 use lib.ListN.{length, drop, length-drop}
 use Rattle.field.specs.Primes.{listed}
-use Rattle.field.proofs.Tests.{in-range}
+use Rattle.field.proofs.Tests.{zero-only, in-range}
 use Rattle.circuit.specs.Bytes.{byte, wrongMark}
 use Rattle.circuit.specs.Table.{wrongWeight}
 use Rattle.query.specs.Card.{cardMark, mostConditions, wrongConditionCount}
@@ -57,11 +57,6 @@ prime c = sym (c .is-listed .ensures)
 
 weight : (c : tie.After-outside) → wrongWeight (byte (bytes₃ (c .before .before)) 3) ≡ c .outside .result
 weight c = ap wrongWeight (sym (c .before .wide .ensures .0)) ∙ sym (c .outside .ensures)
-
--- a number in the range from 0 to 0
-zero-only : (x : ℕ) → not (eqb x 0) ≡ (ltb x 0 || ltb 0 x)
-zero-only zero = refl
-zero-only (suc x) = rw (ne-eqb (suc x) 0 (λ e. omega arith), le-ltb (suc x) 0 zero-le, lt-ltb 0 (suc x) (omega arith))
 
 spare : (c : tie.After-outside2) → not (eqb (byte (bytes₄ (c .before .before)) 5) 0) ≡ c .outside2 .result
 spare c = rw zero-only (sym (rw (c .before .wide2 .ensures .0) at (c .outside2 .ensures)))

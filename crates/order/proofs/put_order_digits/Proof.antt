@@ -11,12 +11,11 @@ use lib.ListN.{length, length-append}
 use Rattle.field.specs.Logarithm.{clog}
 use Rattle.comparison.specs.Condition.{Condition}
 use Rattle.comparison.specs.Digits.{digitGates, digitStart, digitsFrom}
-use Rattle.comparison.proofs.Digits.{digit-next, start-first}
+use Rattle.comparison.proofs.Digits.{digits-cons, digit-next, start-first}
 use Rattle.writer.specs.declared.Pen.{Pen}
 use Rattle.writer.specs.Pen.{Wrote}
 use Rattle.writer.proofs.Writing.{none, same-gates, then}
 use Rattle.order.specs.Slots.{orderCondition}
-use Rattle.order.proofs.Digit.{digits-cons}
 use Rattle.order.proofs.put_order_digits.Statement.{statement}
 use Rattle.order.proofs.put_order_digits.Tie as tie
 

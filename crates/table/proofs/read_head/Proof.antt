@@ -1,16 +1,16 @@
 -- `table::read_head` meets its contract: at each return the tests on the way pick the line of `readHead`.
 -- Assumes nothing.
-use mathlib.Core.Path.{_≡_, refl, sym, ap, _∙_}
-use mathlib.Core.Bool.{true, false, not, _||_}
+use mathlib.Core.Path.{_≡_, sym, ap, _∙_}
+use mathlib.Core.Bool.{true, false, not}
 use mathlib.Core.List.{List}
-use Prim.Native.Nat.{ℕ, zero, suc, zero-le}
-use native.Mathlib.Omega.{arith}
+use Prim.Native.Nat.{ℕ}
 use borrow.Author.Needs.{needs}
-use borrow.Author.Tests.{ne-eqb, not-true, not-false, lt-ltb, le-ltb}
+use borrow.Author.Tests.{not-true, not-false, lt-ltb, le-ltb}
 use lib.Dec.{ltb, eqb}
 use lib.ListN.{length}
 use Rattle.field.specs.Primes.{listed}
 use Rattle.digits.specs.Number.{wrongCount}
+use Rattle.field.proofs.Tests.{zero-only}
 use Rattle.circuit.specs.Bytes.{byte, wrongMark}
 use Rattle.circuit.specs.Reading.{countOf}
 use Rattle.circuit.specs.Table.{headMark, wrongWeight, wrongGateCount}
@@ -60,11 +60,6 @@ slots : (c : tie.After-outside2) → wrongCount (byte (bytes (first (second (thi
 slots c =
     ap (λ h. wrongCount (h .slots)) (sym (third (fourth c) .before .before .before .head-at .ensures))
     ∙ ap wrongCount (sym (c .before .wide2 .ensures .0)) ∙ sym (c .outside2 .ensures)
-
--- a number in the range from 0 to 0
-zero-only : (x : ℕ) → not (eqb x 0) ≡ (ltb x 0 || ltb 0 x)
-zero-only zero = refl
-zero-only (suc x) = rw (ne-eqb (suc x) 0 (λ e. omega arith), le-ltb (suc x) 0 zero-le, lt-ltb 0 (suc x) (omega arith))
 
 spare : (c : tie.After-outside3) → not (eqb (byte (bytes (first (second (third (fourth (fifth c)))))) 5) 0) ≡ c .outside3 .result
 spare c = rw zero-only (sym (rw (c .before .wide3 .ensures .0) at (c .outside3 .ensures)))

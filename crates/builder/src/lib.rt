@@ -1,0 +1,211 @@
+// Building tables: Build.
+use answer::Depth;
+use answer::Refusal;
+use answer::Report;
+use answer::Reported;
+use card::CardHead;
+use card::CardRead;
+use card::ConditionRead;
+use card::Relation;
+use writer::Node;
+use writer::Pen;
+use writer::Slots;
+use writer::Written;
+ghost use mathlib.Core.Path.{_≡_};
+ghost use Prim.Native.Nat.{_+_, _*_, _%_, _≤_, _<_};
+ghost use lib.ListN.{length, take};
+ghost use Rattle.answer.specs.Outcome.{accepted};
+ghost use Rattle.answer.specs.Report.{reportAnswer};
+ghost use Rattle.answer.specs.declared.Reported.the-variants.{Success};
+ghost use Rattle.field.specs.Bit.{bit};
+ghost use Rattle.digits.specs.Number.{mostDigits};
+ghost use Rattle.circuit.specs.Table.{mostGates};
+ghost use Rattle.comparison.specs.OrderDigit.{powerCount};
+ghost use Rattle.comparison.specs.Writing.{conditionSegment};
+ghost use Rattle.order.specs.Constants.{Constants};
+ghost use Rattle.writer.specs.Factors.{nodes};
+ghost use Rattle.writer.specs.Nodes.{nodeIs};
+ghost use Rattle.writer.specs.Pen.{Wrote, Room, Moved};
+ghost use Rattle.query.specs.Card.{mostConditions};
+ghost use Rattle.query.specs.Outcomes.{building};
+ghost use Rattle.card.specs.Parts.{headIs, readSummary};
+ghost use Rattle.builder.specs.Buildable.{Buildable, reportIs};
+ghost use Rattle.builder.specs.Conditions.{conditionIs, flipGates, flipNode, segments, outputsFrom, InSlots, conditionsOf, Readable, fresh};
+
+// A condition with the FLIP of its output at the end, or as it is.
+fn put_ending(table: &mut [u8], written: Written, flipped: bool) -> Written
+    requires { ⌜ Room (now table) (written .pen) (bit flipped) ⌝ }
+    ensures wrote { λ r. ⌜ Wrote (now (table .entry)) (written .pen) (flipGates flipped (written .node .gate)) (now (table .exit)) (r .pen) ⌝ }
+    ensures moves { λ r. ⌜ Moved (written .pen) (bit flipped) (r .pen) ⌝ }
+    ensures output { λ r. ⌜ nodeIs (r .node) ≡ flipNode flipped (written .pen .next) (nodeIs (written .node)) ⌝ }
+{
+    if flipped {
+        let pen = written.pen;
+        let node = Node {
+            gate: pen.next,
+            depth: written.node.depth,
+        };
+        let flip = writer::put_flip(table, pen, written.node.gate);
+        return Written { pen: flip, node };
+    }
+    written
+}
+
+// One condition, from the next free gate number on. The node is its output.
+fn put_condition(
+    table: &mut [u8],
+    pen: Pen,
+    p: u16,
+    relation: Relation,
+    slots: Slots,
+    constants: &[u8],
+    powers: &mut [u16],
+) -> Written
+    requires { ⌜ Room (now table) pen (length (conditionSegment p (conditionIs relation slots) (pen .next) .gates)) × (3 ≤ p) × (p % 2 ≡ 1) × (p < 256) × InSlots (conditionIs relation slots) ⌝ }
+    requires { ⌜ Constants p (now constants) × (powerCount p < length (now powers)) ⌝ }
+    ensures wrote { λ r. ⌜ Wrote (now (table .entry)) pen (conditionSegment p (conditionIs relation slots) (pen .next) .gates) (now (table .exit)) (r .pen) ⌝ }
+    ensures moves { λ r. ⌜ Moved pen (length (conditionSegment p (conditionIs relation slots) (pen .next) .gates)) (r .pen) ⌝ }
+    ensures output { λ r. ⌜ nodeIs (r .node) ≡ conditionSegment p (conditionIs relation slots) (pen .next) .output ⌝ }
+{
+    let flipped = card::is_flipped(relation);
+    if card::is_order(relation) {
+        let backward = card::is_backward(relation);
+        let order = order::put_order(table, pen, p, backward, slots, constants, powers);
+        return put_ending(table, order, flipped);
+    }
+    let equality = equality::put_equality(table, pen, p, slots);
+    put_ending(table, equality, flipped)
+}
+
+// The conditions in order; their outputs go into gates and depths.
+fn put_conditions(
+    records: &[u8],
+    count: usize,
+    p: u16,
+    table: &mut [u8],
+    constants: &[u8],
+    powers: &mut [u16],
+    gates: &mut [u16],
+    depths: &mut [u16],
+) -> Pen
+    requires { ⌜ Readable count (now records) × (3 ≤ p) × (p % 2 ≡ 1) × (p < 256) × (count ≤ length (now gates)) × (count ≤ length (now depths)) ⌝ }
+    requires { ⌜ (8 * (length (segments p 0 (conditionsOf count (now records))) + 1) ≤ length (now table)) × (length (segments p 0 (conditionsOf count (now records))) ≤ mostGates) ⌝ }
+    requires { ⌜ Constants p (now constants) × (powerCount p < length (now powers)) ⌝ }
+    ensures wrote { λ r. ⌜ Wrote (now (table .entry)) fresh (segments p 0 (conditionsOf count (now (records .entry)))) (now (table .exit)) r ⌝ }
+    ensures moves { λ r. ⌜ Moved fresh (length (segments p 0 (conditionsOf count (now (records .entry))))) r ⌝ }
+    ensures outputs { λ r. ⌜ nodes (take count (now (gates .exit))) (take count (now (depths .exit))) ≡ outputsFrom p 0 (conditionsOf count (now (records .entry))) ⌝ }
+{
+    let mut pen = Pen {
+        next: 0,
+        products: 0,
+        squares: 0,
+    };
+    let mut slot: u16 = 0;
+    let mut k = 0;
+    while k < count {
+        let at = card::RECORD * k;
+        match card::read_condition(&records[at..]) {
+            ConditionRead::Read { relation, digits } => {
+                let slots = Slots {
+                    count: digits as u16,
+                    left: slot,
+                    right: slot,
+                };
+                let written = put_condition(table, pen, p, relation, slots, constants, powers);
+                gates[k] = written.node.gate;
+                depths[k] = written.node.depth;
+                pen = written.pen;
+                slot += digits as u16;
+            }
+            ConditionRead::Refused(_) => return pen,
+        }
+        k += 1;
+    }
+    pen
+}
+
+// The report on gates that were counted while they were written; the last is the output.
+fn report_of(written: Written, weight: u8) -> Report
+    requires { ⌜ written .pen .products + written .pen .squares ≤ mostGates ⌝ }
+    ensures { λ r. ⌜ reportAnswer (Success r) ≡ accepted (reportIs (written .pen) (written .node .depth) weight) ⌝ }
+{
+    let pen = written.pen;
+    Report {
+        gates: pen.next,
+        products: pen.products as u16,
+        squares: pen.squares as u16,
+        cost: table::cost_of(pen.products, pen.squares, weight),
+        depth: Depth(written.node.depth),
+    }
+}
+
+// Writes the table of a card, of so many gates. The other slices are lent to work in.
+fn write_table(
+    card: &[u8],
+    head: CardHead,
+    count: u16,
+    table: &mut [u8],
+    constants: &mut [u8],
+    powers: &mut [u16],
+    gates: &mut [u16],
+    depths: &mut [u16],
+) -> Report
+    requires { ⌜ Buildable (now card) (now table) (headIs head) count ⌝ }
+    requires { ⌜ (128 ≤ length (now constants)) × (192 ≤ length (now powers)) × (mostConditions ≤ length (now gates)) × (length (now depths) ≡ length (now gates)) ⌝ }
+    ensures answers { λ r. ⌜ reportAnswer (Success r) ≡ building (now (card .entry)) (now (table .entry)) .answer ⌝ }
+    ensures leaves { λ r. ⌜ now (table .exit) ≡ building (now (card .entry)) (now (table .entry)) .lent ⌝ }
+{
+    let conditions = table::wide(head.count);
+    field::put_order_constants(head.prime, constants);
+    writer::put_head(table, head.prime, head.weight, head.slots, count);
+    let pen = put_conditions(
+        &card[card::HEAD..],
+        conditions,
+        head.prime as u16,
+        table,
+        constants,
+        powers,
+        gates,
+        depths,
+    );
+    let tree = writer::put_product_tree(table, pen, gates, depths, conditions);
+    report_of(tree, head.weight)
+}
+
+// The table of a card that was read, or 11.
+fn build_read(card: &[u8], head: CardHead, table: &mut [u8]) -> Reported
+    requires { ⌜ accepted (headIs head) ≡ readSummary (now card) ⌝ }
+    ensures answers { λ r. ⌜ reportAnswer r ≡ building (now (card .entry)) (now (table .entry)) .answer ⌝ }
+    ensures leaves { λ r. ⌜ now (table .exit) ≡ building (now (card .entry)) (now (table .entry)) .lent ⌝ }
+{
+    let told = card::forecast_read(card, head);
+    if table.len() < table::RECORD * (told.gates as usize + 1) {
+        return Reported::Refused(Refusal::TableBufferTooSmall);
+    }
+    let mut constants = [0u8; field::MOST_CONSTANTS];
+    let mut powers = [0u16; order::MOST_POWERS];
+    let mut gates = [0u16; card::MOST_CONDITIONS];
+    let mut depths = [0u16; card::MOST_CONDITIONS];
+    Reported::Success(write_table(
+        card,
+        head,
+        told.gates,
+        table,
+        &mut constants,
+        &mut powers,
+        &mut gates,
+        &mut depths,
+    ))
+}
+
+// The table of a card at the start of the lent bytes and the report on it, or a refusal, which leaves
+// the bytes as they are.
+pub fn build(card: &[u8], table: &mut [u8]) -> Reported
+    ensures answers { λ r. ⌜ reportAnswer r ≡ building (now (card .entry)) (now (table .entry)) .answer ⌝ }
+    ensures leaves { λ r. ⌜ now (table .exit) ≡ building (now (card .entry)) (now (table .entry)) .lent ⌝ }
+{
+    match card::read_card(card) {
+        CardRead::Read(head) => build_read(card, head, table),
+        CardRead::Refused(why) => Reported::Refused(why),
+    }
+}

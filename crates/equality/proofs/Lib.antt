@@ -1,0 +1,6 @@
+-- Laws of writing equality conditions.
+pub mod Remains
+pub mod Chain
+pub mod Depth
+pub mod Digits
+pub mod Joining
