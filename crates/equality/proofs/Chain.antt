@@ -24,8 +24,8 @@ use Rattle.writer.specs.declared.Written.{Written}
 use Rattle.writer.specs.Nodes.{nodeIs}
 use Rattle.writer.specs.Pen.{Wrote}
 use Rattle.equality.specs.Collecting.{product, collectedBy}
-use Rattle.equality.specs.Remains.{Remains}
-use Rattle.equality.proofs.Remains.{remains-as, remains-then}
+use Rattle.writer.specs.Remains.{Remains}
+use Rattle.writer.proofs.Remains.{remains-as, remains-then}
 
 -- bit 0 of an even number
 pub chain-start : (t k z : ℕ) → 1 ≤ t → t % 2 ≡ 0 → zeroChain (bits t) k z ≡ chain (bits (t / 2)) k z nothing

@@ -24,9 +24,9 @@ use Rattle.writer.specs.Factors.{nodes}
 use Rattle.writer.specs.Pen.{Wrote}
 use Rattle.writer.proofs.Factors.{added}
 use Rattle.writer.proofs.Writing.{then}
-use Rattle.equality.specs.Remains.{Remains}
+use Rattle.writer.specs.Remains.{Remains}
 use Rattle.equality.specs.Slots.{equalityCondition}
-use Rattle.equality.proofs.Remains.{remains-as, remains-then}
+use Rattle.writer.proofs.Remains.{remains-as, remains-then}
 
 -- ---- one digit
 

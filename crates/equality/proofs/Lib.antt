@@ -1,5 +1,4 @@
 -- Laws of writing equality conditions.
-pub mod Remains
 pub mod Chain
 pub mod Depth
 pub mod Digits

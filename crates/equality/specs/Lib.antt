@@ -1,4 +1,3 @@
 -- Writing equality conditions: what remains of a piece, one bit of the collected power, and the condition of some slots.
-pub mod Remains
 pub mod Collecting
 pub mod Slots

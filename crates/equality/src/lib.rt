@@ -21,7 +21,7 @@ ghost use Rattle.writer.specs.Factors.{nodes};
 ghost use Rattle.writer.specs.Nodes.{nodeIs};
 ghost use Rattle.writer.specs.Pen.{Wrote, Room, Moved};
 ghost use Rattle.equality.specs.Collecting.{product, collectedBy, laterBits};
-ghost use Rattle.equality.specs.Remains.{Remains};
+ghost use Rattle.writer.specs.Remains.{Remains};
 ghost use Rattle.equality.specs.Slots.{equalityCondition, equalitySegment};
 
 // The power at the first set bit of t, and the bits of t above it.

@@ -2,3 +2,4 @@
 pub mod Writing
 pub mod Factors
 pub mod ProductTree
+pub mod Remains

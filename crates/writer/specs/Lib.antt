@@ -2,3 +2,4 @@
 pub mod Pen
 pub mod Nodes
 pub mod Factors
+pub mod Remains

@@ -8,8 +8,8 @@ use lib.ListN.{length}
 use Rattle.comparison.specs.Bits.{bits}
 use Rattle.comparison.specs.EqualityDigit.{power, chain}
 use Rattle.equality.specs.Collecting.{laterBits}
-use Rattle.equality.specs.Remains.{Remains}
-use Rattle.equality.proofs.Remains.{remains-all, remains-as}
+use Rattle.writer.specs.Remains.{Remains}
+use Rattle.writer.proofs.Remains.{remains-all, remains-as}
 use Rattle.equality.proofs.Chain.{chain-some, chain-end, product-room, after-later}
 use Rattle.equality.proofs.Depth.{Collects, collects-first, collects-later, collects-all, collects-shallow, square-deep}
 use Rattle.equality.proofs.put_collected.Statement.{statement}

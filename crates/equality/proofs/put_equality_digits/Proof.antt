@@ -12,10 +12,10 @@ use Rattle.comparison.specs.Writing.{equalityFactors}
 use Rattle.writer.specs.Factors.{nodes}
 use Rattle.writer.specs.Nodes.{nodeIs}
 use Rattle.writer.proofs.Writing.{none}
-use Rattle.equality.specs.Remains.{Remains}
+use Rattle.writer.specs.Remains.{Remains}
 use Rattle.equality.specs.Slots.{equalityCondition}
 use Rattle.equality.proofs.Digits.{after-digit, digit-room, outputs-next, no-digits, no-outputs}
-use Rattle.equality.proofs.Remains.{remains-all, remains-as}
+use Rattle.writer.proofs.Remains.{remains-all, remains-as}
 use Rattle.equality.proofs.put_equality_digits.Statement.{statement}
 use Rattle.equality.proofs.put_equality_digits.Tie as tie
 

@@ -8,9 +8,9 @@ use native.Mathlib.Nat.{le-of-eq}
 use lib.ListN.{length}
 use Rattle.comparison.specs.Bits.{bits}
 use Rattle.comparison.specs.EqualityDigit.{nothing, chain, zeroChain}
-use Rattle.equality.specs.Remains.{Remains}
+use Rattle.writer.specs.Remains.{Remains}
 use Rattle.equality.proofs.Chain.{chain-start, chain-some, after-unset, after-set}
-use Rattle.equality.proofs.Remains.{remains-all, remains-as}
+use Rattle.writer.proofs.Remains.{remains-all, remains-as}
 use Rattle.equality.proofs.Depth.{square-deep, halved, halved-odd, shallow}
 use Rattle.equality.proofs.put_squares.Statement.{statement}
 use Rattle.equality.proofs.put_squares.Tie as tie

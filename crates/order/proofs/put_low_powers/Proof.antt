@@ -3,16 +3,16 @@
 -- Assumes nothing.
 use mathlib.Core.Path.{_≡_, refl, _∙_}
 use mathlib.Core.Logic.{inl}
-use mathlib.Core.List.{List, map}
-use Prim.Native.Nat.{ℕ, _+_, _-_, _/_, _≤_}
+use mathlib.Core.List.{[], _∷_, map}
+use Prim.Native.Nat.{_+_, _-_, _/_, _≤_}
 use native.Mathlib.Omega.{arith}
 use borrow.Author.Needs.{needs}
 use lib.ListN.{length}
 use Rattle.comparison.specs.OrderDigit.{half, ascending, lowExponents, powerOf, powerGate}
 use Rattle.comparison.proofs.Powers.{gate-low}
-use Rattle.writer.specs.declared.Pen.{Pen}
-use Rattle.writer.specs.Pen.{Wrote}
-use Rattle.writer.proofs.Writing.{none, then}
+use Rattle.writer.specs.Remains.{Remains}
+use Rattle.writer.proofs.Remains.{remains-all, remains-as, remains-then}
+use Rattle.writer.proofs.Writing.{none}
 use Rattle.order.specs.Powers.{Deep}
 use Rattle.order.proofs.Powers.{deep-low, deep-step, low-cons}
 use Rattle.order.proofs.put_low_powers.Statement.{statement}
@@ -22,8 +22,7 @@ abbrev Inv-loop : tie.InvT-loop
 Inv-loop table₀ z p depths₀ h last₀ i₀ table depths last i =
     (2 ≤ i) × (i ≤ half p + 1) × (last .next + 1 ≡ z + i) × (last .products ≤ last .next) × (last .squares ≤ last .next)
     × (length table ≡ length table₀) × (length depths ≡ length depths₀) × Deep p depths (last .next - z)
-    × ((table′ : List ℕ) (pen′ : Pen) → Wrote table last (map (powerOf z) (ascending (half p + 1 - i) i)) table′ pen′
-    → Wrote table₀ last₀ (map (powerOf z) (lowExponents p)) table′ pen′)
+    × Remains table₀ last₀ (map (powerOf z) (lowExponents p)) table last (map (powerOf z) (ascending (half p + 1 - i) i))
 
 abbrev μ-loop : tie.MeasureT-loop
 μ-loop table₀ z p depths₀ h last₀ i₀ table depths last i = half p + 1 - i
@@ -36,7 +35,7 @@ loop-holds c =
     let s = c .before .before in
     let e : half (s .args .p) + 1 - 2 ≡ half (s .args .p) - 1 = omega arith in
     let one : s .args .pen .next - s .args .z ≡ 1 = omega arith in
-    (omega arith, omega arith, omega arith, omega arith, omega arith, refl, refl, rw one (s .pre .1), λ table′ pen′ w. rw e at w)
+    (omega arith, omega arith, omega arith, omega arith, omega arith, refl, refl, rw one (s .pre .1), rw e remains-all)
 
 put-power-requires : tie.Need-put-power-requires Inv-loop μ-loop
 put-power-requires c κs =
@@ -68,7 +67,8 @@ loop-again c =
       omega arith,
       omega arith,
       rw (more, w .put-power .ensures .1 .1) step,
-      λ table′ pen′ rest. l .loop .inv .8 table′ pen′ (rw (low-cons (a .z) (half (a .p)) (l .loop .i) (omega arith)) (then (w .put-power .ensures .0) rest)),
+      remains-then {gs = powerOf (a .z) (l .loop .i) ∷ []} (remains-as (low-cons (a .z) (half (a .p)) (l .loop .i) (omega arith)) (l .loop .inv .8))
+          (w .put-power .ensures .0),
     )
 
 same-length : tie.Need-same-length Inv-loop μ-loop
@@ -84,7 +84,7 @@ returns c =
     let a = l .before .before .before .args in
     let e : half (a .p) + 1 - l .loop .i ≡ 0 = omega arith in
     let all : l .loop .last .next - a .z ≡ half (a .p) = omega arith in
-    ((rw e at (l .loop .inv .8)) _ _ none, (omega arith, rw (← all) (l .loop .inv .7)))
+    ((rw e at (l .loop .inv .8)) .gives _ _ none, (omega arith, rw (← all) (l .loop .inv .7)))
 
 pub put-low-powers-spec : {M : Type 1} → statement M
 put-low-powers-spec =

@@ -3,17 +3,17 @@
 -- Assumes nothing.
 use mathlib.Core.Path.{_≡_, refl, _∙_}
 use mathlib.Core.Logic.{inl, inr}
-use mathlib.Core.List.{List, map}
-use Prim.Native.Nat.{ℕ, _+_, _-_, _/_, _%_, _≤_, _<_}
+use mathlib.Core.List.{[], _∷_, map}
+use Prim.Native.Nat.{_+_, _-_, _/_, _%_, _≤_, _<_}
 use native.Mathlib.Omega.{arith}
 use borrow.Author.Needs.{needs}
 use lib.ListN.{length}
 use Rattle.field.specs.Polynomials.{everySecond}
 use Rattle.comparison.specs.OrderDigit.{half, oddExponents, powerOf, powerCount, powerGate}
 use Rattle.comparison.proofs.Powers.{gate-high}
-use Rattle.writer.specs.declared.Pen.{Pen}
-use Rattle.writer.specs.Pen.{Wrote}
-use Rattle.writer.proofs.Writing.{none, then}
+use Rattle.writer.specs.Remains.{Remains}
+use Rattle.writer.proofs.Remains.{remains-all, remains-as, remains-then}
+use Rattle.writer.proofs.Writing.{none}
 use Rattle.order.specs.Powers.{Deep}
 use Rattle.order.proofs.Powers.{deep-low, deep-step, odd-cons}
 use Rattle.order.proofs.put_odd_powers.Statement.{statement}
@@ -23,8 +23,7 @@ abbrev Inv-loop : tie.InvT-loop
 Inv-loop table₀ z p depths₀ h last₀ i₀ table depths last i =
     (i % 2 ≡ 1) × (half p < i) × (i ≤ p) × (last .next + (half p + 1) / 2 ≡ z + half p + i / 2) × (last .products ≤ last .next)
     × (last .squares ≤ last .next) × (length table ≡ length table₀) × (length depths ≡ length depths₀) × Deep p depths (last .next - z)
-    × ((table′ : List ℕ) (pen′ : Pen) → Wrote table last (map (powerOf z) (everySecond ((p - i) / 2) i)) table′ pen′
-    → Wrote table₀ last₀ (map (powerOf z) (oddExponents p)) table′ pen′)
+    × Remains table₀ last₀ (map (powerOf z) (oddExponents p)) table last (map (powerOf z) (everySecond ((p - i) / 2) i))
 
 abbrev μ-loop : tie.MeasureT-loop
 μ-loop table₀ z p depths₀ h last₀ i₀ table depths last i = p - i
@@ -51,7 +50,7 @@ loop-holds c =
       refl,
       refl,
       rw first (s .pre .1),
-      λ table′ pen′ w. w,
+      remains-all,
     )
 
 sub-loop : tie.Need-sub-loop Inv-loop μ-loop
@@ -88,7 +87,8 @@ loop-again c =
       omega arith,
       omega arith,
       rw (more, w .put-power .ensures .1 .1) step,
-      λ table′ pen′ rest. l .loop .inv .9 table′ pen′ (rw (odd-cons (a .z) (a .p) (l .loop .i) (omega arith)) (then (w .put-power .ensures .0) rest)),
+      remains-then {gs = powerOf (a .z) (l .loop .i) ∷ []} (remains-as (odd-cons (a .z) (a .p) (l .loop .i) (omega arith)) (l .loop .inv .9))
+          (w .put-power .ensures .0),
     )
 
 same-length : tie.Need-same-length Inv-loop μ-loop
@@ -104,7 +104,7 @@ returns c =
     let a = l .before .before .before .args in
     let e : (a .p - l .loop .i) / 2 ≡ 0 = omega arith in
     let all : l .loop .last .next - a .z ≡ powerCount (a .p) = omega arith in
-    ((rw e at (l .loop .inv .9)) _ _ none, (omega arith, rw (← all) (l .loop .inv .8)))
+    ((rw e at (l .loop .inv .9)) .gives _ _ none, (omega arith, rw (← all) (l .loop .inv .8)))
 
 pub put-odd-powers-spec : {M : Type 1} → statement M
 put-odd-powers-spec =

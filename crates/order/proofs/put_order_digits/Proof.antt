@@ -2,7 +2,6 @@
 -- The measure is how many are left.
 -- Assumes nothing.
 use mathlib.Core.Path.{_≡_, refl, sym, ap, _∙_}
-use mathlib.Core.List.{List}
 use Prim.Native.Nat.{ℕ, _+_, _-_, _%_, _≤_, _<_}
 use native.Mathlib.Omega.{arith}
 use native.Mathlib.Numerals.{add-one}
@@ -12,9 +11,9 @@ use Rattle.field.specs.Logarithm.{clog}
 use Rattle.comparison.specs.Condition.{Condition}
 use Rattle.comparison.specs.Digits.{digitGates, digitStart, digitsFrom}
 use Rattle.comparison.proofs.Digits.{digits-cons, digit-next, start-first}
-use Rattle.writer.specs.declared.Pen.{Pen}
-use Rattle.writer.specs.Pen.{Wrote}
-use Rattle.writer.proofs.Writing.{none, same-gates, then}
+use Rattle.writer.specs.Remains.{Remains}
+use Rattle.writer.proofs.Remains.{remains-all, remains-as, remains-then}
+use Rattle.writer.proofs.Writing.{none, same-gates}
 use Rattle.order.specs.Slots.{orderCondition}
 use Rattle.order.proofs.put_order_digits.Statement.{statement}
 use Rattle.order.proofs.put_order_digits.Tie as tie
@@ -44,11 +43,9 @@ Inv-loop table₀ p backward slots constants depths₀ last₀ j₀ table depths
     let c = orderCondition backward slots in
     let k = last₀ .pen .next in
     (j ≤ slots .count) × (last .pen .next ≡ digitStart p c k j)
-    × (last .pen .next + length (digitsFrom p c k (slots .count - j) j) ≡ k + length (digitsFrom p c k (slots .count) 0))
     × (last .pen .products ≤ last .pen .next) × (last .pen .squares ≤ last .pen .next) × (length table ≡ length table₀)
     × (length depths ≡ length depths₀) × (1 ≤ j → last .node .depth ≡ clog (p - 1))
-    × ((table′ : List ℕ) (pen′ : Pen) → Wrote table (last .pen) (digitsFrom p c k (slots .count - j) j) table′ pen′
-    → Wrote table₀ (last₀ .pen) (digitsFrom p c k (slots .count) 0) table′ pen′)
+    × Remains table₀ (last₀ .pen) (digitsFrom p c k (slots .count) 0) table (last .pen) (digitsFrom p c k (slots .count - j) j)
 
 abbrev μ-loop : tie.MeasureT-loop
 μ-loop table₀ p backward slots constants depths₀ last₀ j₀ table depths last j = slots .count - j
@@ -61,21 +58,20 @@ loop-holds c =
     let all : a .slots .count - 0 ≡ a .slots .count = omega arith in (
       omega arith,
       sym first,
-      ap (λ (n : ℕ). a .pen .next + length (digitsFrom (a .p) (orderCondition (a .backward) (a .slots)) (a .pen .next) n 0)) all,
       omega arith,
       omega arith,
       refl,
       refl,
       λ some. absurd (omega arith),
-      λ table′ pen′ w. same-gates (ap (λ (n : ℕ). digitsFrom (a .p) (orderCondition (a .backward) (a .slots)) (a .pen .next) n 0) all) w,
+      rw all remains-all,
     )
 
 put-order-digit-requires : tie.Need-put-order-digit-requires Inv-loop μ-loop
 put-order-digit-requires c κs =
     let l = c .before .before .before .before in
     let s = l .before .before .before .before in
-    let room = fits (s .args .p) (orderCondition (s .args .backward) (s .args .slots)) (s .args .pen .next) (s .args .slots .count) (l .loop .j) (l .loop .last .pen .next) (omega arith) (l .loop .inv .1) (l .loop .inv .2) in
-    (omega (arith, room, l .loop .inv, s .pre), (s .pre .1 .0, omega (arith, l .loop .inv .6, s .pre .1 .1)))
+    let room = fits (s .args .p) (orderCondition (s .args .backward) (s .args .slots)) (s .args .pen .next) (s .args .slots .count) (l .loop .j) (l .loop .last .pen .next) (omega arith) (l .loop .inv .1) (l .loop .inv .7 .number) in
+    (omega (arith, room, l .loop .inv, s .pre), (s .pre .1 .0, omega (arith, l .loop .inv .5, s .pre .1 .1)))
 
 add-j : tie.Need-add-j Inv-loop μ-loop
 add-j c = search needs
@@ -89,27 +85,23 @@ loop-again c =
     let l = w .before .before .before .before .before in
     let s = l .before .before .before .before in
     let d = orderCondition (s .args .backward) (s .args .slots) in
-    let room = fits (s .args .p) d (s .args .pen .next) (s .args .slots .count) (l .loop .j) (l .loop .last .pen .next) (omega arith) (l .loop .inv .1) (l .loop .inv .2) in
     let e = w .put-order-digit .ensures in
     let first = same-gates (ap (digitGates (s .args .p) d (l .loop .j)) (l .loop .inv .1)) (e .0) in (
       omega arith,
       onward (s .args .p) (s .pre .0 .1) (s .pre .0 .2) d (s .args .pen .next) (l .loop .j) _ _ (l .loop .inv .1) (e .1 .0 .0),
-      omega (arith, room, e .1 .0),
       omega (arith, e .1 .0),
       omega (arith, e .1 .0),
+      omega (arith, l .loop .inv .4, w),
       omega (arith, l .loop .inv .5, w),
-      omega (arith, l .loop .inv .6, w),
       λ some. e .1 .1,
-      λ table′ pen′ rest.
-          l .loop .inv .8 table′ pen′
-          (same-gates (sym (digits-cons (s .args .p) d (s .args .pen .next) (s .args .slots .count) (l .loop .j) (omega arith))) (then first rest)),
+      remains-then (remains-as (digits-cons (s .args .p) d (s .args .pen .next) (s .args .slots .count) (l .loop .j) (omega arith)) (l .loop .inv .7)) first,
     )
 
 same-length : tie.Need-same-length Inv-loop μ-loop
-same-length c = c .before .before .loop .inv .5
+same-length c = c .before .before .loop .inv .4
 
 same-length-2 : tie.Need-same-length-2 Inv-loop μ-loop
-same-length-2 c = c .before .before .loop .inv .6
+same-length-2 c = c .before .before .loop .inv .5
 
 returns : tie.Need-returns Inv-loop μ-loop
 unfolding digitsFrom
@@ -118,10 +110,8 @@ returns c =
     let s = l .before .before .before .before in
     let end : s .args .slots .count - l .loop .j ≡ 0 = omega arith in
     let d = orderCondition (s .args .backward) (s .args .slots) in
-    let done : length (digitsFrom (s .args .p) d (s .args .pen .next) (s .args .slots .count - l .loop .j) (l .loop .j)) ≡ 0 = rw end in (
-      l .loop .inv .8 _ _ (same-gates (sym (ap (λ (n : ℕ). digitsFrom (s .args .p) d (s .args .pen .next) n (l .loop .j)) end)) none),
-      (omega (arith, done, l .loop .inv), l .loop .inv .7 (omega arith)),
-    )
+    let rest = rw end at (l .loop .inv .7) in
+    (rest .gives _ _ none, (omega (arith, rest .number, l .loop .inv), l .loop .inv .6 (omega arith)))
 
 pub put-order-digits-spec : {M : Type 1} → statement M
 put-order-digits-spec =

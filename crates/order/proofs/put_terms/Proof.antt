@@ -1,9 +1,8 @@
 -- `order::put_terms` meets its contract. The invariant: the terms that are left to write give all of them, and the sum so far is as deep as
 -- the power before. The measure is how far i is from p.
 -- Assumes nothing.
-use mathlib.Core.Path.{_≡_, refl, _∙_}
+use mathlib.Core.Path.{_≡_, refl, sym, ap₂, _∙_}
 use mathlib.Core.Logic.{inl, inr}
-use mathlib.Core.List.{List}
 use Prim.Native.Nat.{ℕ, _+_, _-_, _%_, _≤_}
 use native.Mathlib.Omega.{arith}
 use borrow.Author.Needs.{needs}
@@ -11,8 +10,8 @@ use lib.ListN.{length}
 use Rattle.field.specs.Logarithm.{clog}
 use Rattle.comparison.specs.OrderDigit.{laterTerms, powerGate}
 use Rattle.comparison.proofs.Powers.{gate-low}
-use Rattle.writer.specs.declared.Pen.{Pen}
-use Rattle.writer.specs.Pen.{Wrote}
+use Rattle.writer.specs.Remains.{Remains}
+use Rattle.writer.proofs.Remains.{remains-all, remains-as, remains-then}
 use Rattle.writer.proofs.Writing.{then}
 use Rattle.order.proofs.Powers.{place-within}
 use Rattle.order.proofs.Terms.{exponentsFrom, constants-long, constant-odd, constant-top, terms-first, later-cons, later-top, deeper-power}
@@ -28,8 +27,8 @@ Inv-loop table₀ z p constants depths sum₀ i₀ table sum i =
     (i % 2 ≡ 1) × (3 ≤ i) × (i ≤ p) × (sum .pen .next + 3 ≡ sum₀ .pen .next + i) × (sum .pen .products ≤ sum .pen .next)
     × (sum .pen .squares ≤ sum .pen .next) × (length table ≡ length table₀) × (sum .node .gate + 1 ≡ sum .pen .next)
     × (sum .node .depth ≡ clog (i - 2))
-    × ((table′ : List ℕ) (pen′ : Pen) → Wrote table (sum .pen) (laterTerms p z (sum .pen .next) (sum .node .gate) (exponentsFrom p i)) table′ pen′
-    → Wrote table₀ (sum₀ .pen) (laterTerms p z (sum₀ .pen .next) (sum₀ .node .gate) (exponentsFrom p 3)) table′ pen′)
+    × Remains table₀ (sum₀ .pen) (laterTerms p z (sum₀ .pen .next) (sum₀ .node .gate) (exponentsFrom p 3)) table (sum .pen)
+    (laterTerms p z (sum .pen .next) (sum .node .gate) (exponentsFrom p i))
 
 abbrev μ-loop : tie.MeasureT-loop
 μ-loop table₀ z p constants depths sum₀ i₀ table sum i = p - i
@@ -49,7 +48,7 @@ loop-holds c =
     let s = c .before .before .before .before .before .before .before .before .before in
     let one : powerGate (s .args .p) 0 1 ≡ 0 = gate-low (s .args .p) 0 1 (omega arith) ∙ omega arith in
     let flat = rw one at (s .pre .1 .2 .known 1 (omega arith, omega arith, inl (omega arith)) (omega (arith, one))) in
-    (omega arith, omega arith, omega arith, omega arith, omega arith, omega arith, refl, omega arith, flat, λ table′ pen′ w. w)
+    (omega arith, omega arith, omega arith, omega arith, omega arith, omega arith, refl, omega arith, flat, remains-all)
 
 sub-loop : tie.Need-sub-loop Inv-loop μ-loop
 sub-loop c = search needs
@@ -103,8 +102,8 @@ loop-again c =
       omega arith,
       omega arith,
       rw back (e .1 .1 .1 ∙ deep),
-      λ table′ pen′ rest.
-          l .loop .inv .9 table′ pen′ (rw (split, ← q .power-at .ensures .0, ← constant, ← e .1 .0 .0, ← e .1 .1 .0) (then (e .0) rest)),
+      remains-as (ap₂ (λ (k sum : ℕ). laterTerms p (s .args .z) k sum (exponentsFrom p (i + 2))) (sym (e .1 .0 .0)) (sym (e .1 .1 .0)))
+          (remains-then (remains-as split (l .loop .inv .9)) (rw (q .power-at .ensures .0, constant) at (e .0))),
     )
 
 sub-power-at : tie.Need-sub-power-at Inv-loop μ-loop
@@ -152,7 +151,7 @@ returns c =
     let constant = constant-top p (s .args .constants .now) (s .pre .1 .0) in
     let lowest = constant-odd p 1 (s .args .constants .now) (s .pre .1 .0) refl (omega arith) in
     let e = top .add-term2 .ensures in
-    let rest = l .loop .inv .9 _ _ (rw (q .power-at2 .ensures .0, constant, ← last) at (e .0)) in (
+    let rest = l .loop .inv .9 .gives _ _ (rw (q .power-at2 .ensures .0, constant, ← last) at (e .0)) in (
       rw (terms-first p (s .args .z) (s .args .pen .next) (omega arith), ← lowest, ← first .put-term .ensures .1 .0) (then (first .put-term .ensures .0) rest),
       (omega (arith, l .loop .inv, first), (omega (arith, l .loop .inv, first), e .1 .1 .1 ∙ deep)),
     )

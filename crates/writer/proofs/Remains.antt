@@ -6,10 +6,10 @@ use Prim.Native.Nat.{ℕ}
 use native.Mathlib.Omega.{arith}
 use lib.ListN.{length-append}
 use Rattle.circuit.specs.Gate.{Gate}
 use Rattle.writer.specs.declared.Pen.{Pen}
 use Rattle.writer.specs.Pen.{Wrote}
 use Rattle.writer.proofs.Writing.{then}
-use Rattle.equality.specs.Remains.{Remains}
+use Rattle.writer.specs.Remains.{Remains}
 
 -- nothing is written yet
 pub remains-all : {table : List ℕ} {pen : Pen} {all : List Gate} → Remains table pen all table pen all
