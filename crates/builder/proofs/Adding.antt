@@ -2,26 +2,29 @@
 -- What is left to write gives all conditions' gates, and the outputs so far with those that are left give all outputs.
 -- Assumes nothing.
 use mathlib.Core.Path.{_≡_, refl, sym, ap, subst, _∙_}
+use mathlib.Core.Bool.{true, or-true}
 use mathlib.Core.List.{List, [], _∷_, _++_, append-assoc, append-nil}
-use Prim.Native.Nat.{ℕ, suc, _+_, _-_, _≤_, _<_, zero-le}
+use Prim.Native.Nat.{ℕ, _+_, _-_, _≤_, _<_, zero-le}
 use native.Mathlib.Omega.{arith}
 use native.Mathlib.Numerals.{add-one}
 use native.Mathlib.Nat.{sub-zero, zero-add}
-use lib.ListN.{length, take, drop, set, length-append}
-use Rattle.answer.specs.Outcome.{refused, accepted}
-use Rattle.answer.proofs.Outcome.{refused≢accepted, answered, accepted-same}
+use lib.ListN.{length, take, set, length-append}
+use Rattle.answer.specs.Outcome.{accepted}
+use Rattle.answer.proofs.Outcome.{accepted-same}
 use Rattle.circuit.specs.Every.{Every}
 use Rattle.circuit.specs.Segment as segment
 use Rattle.comparison.specs.Condition.{Condition}
+use Rattle.comparison.specs.Relation.{isOrder}
 use Rattle.comparison.specs.Writing.{conditionSegment}
 use Rattle.query.specs.Reading.{readCondition, readConditions}
-use Rattle.card.proofs.Conditions.{recordAt, lentAt, lent-is, next-record, one-less, first-refused, first-read}
+use Rattle.card.proofs.Conditions.{recordAt, lentAt}
 use Rattle.writer.specs.declared.Pen.{Pen}
 use Rattle.writer.specs.Factors.{nodes}
-use Rattle.writer.specs.Pen.{Wrote, Moved}
+use Rattle.writer.specs.Pen.{fresh, Wrote, Moved}
 use Rattle.writer.proofs.Factors.{added}
 use Rattle.writer.proofs.Writing.{none, same-gates, then}
-use Rattle.builder.specs.Conditions.{segments, outputsFrom, InSlots, conditionsOf, Readable, fresh}
+use Rattle.builder.specs.Conditions.{segments, outputsFrom, InSlots, conditionsOf, anyOrder, Readable}
+use Rattle.builder.proofs.Rest.{others, others-read, split}
 
 -- k records of count are written
 pub record Adds (p : ℕ) (records : List ℕ) (count : ℕ) (table₀ table : List ℕ) (pen : Pen) (slot k : ℕ) (gates depths : List ℕ) : Type 0 where
@@ -33,6 +36,8 @@ pub record Adds (p : ℕ) (records : List ℕ) (count : ℕ) (table₀ table : L
   pub size : pen .next + length (segments p (pen .next) rest) ≡ length (segments p 0 (conditionsOf count records))
   pub counts : (pen .products ≤ pen .next) × (pen .squares ≤ pen .next)
   pub outputs : nodes (take k gates) (take k depths) ++ outputsFrom p (pen .next) rest ≡ outputsFrom p 0 (conditionsOf count records)
+  -- an order condition that is left is one of all
+  pub orders : anyOrder rest ≡ true → anyOrder (conditionsOf count records) ≡ true
   pub writes : (table′ : List ℕ) (pen′ : Pen) → Wrote table pen (segments p (pen .next) rest) table′ pen′
       → Wrote table₀ fresh (segments p 0 (conditionsOf count records)) table′ pen′
 
@@ -47,6 +52,7 @@ begins p records count table gates depths r = record {
   size = zero-add _;
   counts = (zero-le, zero-le);
   outputs = refl;
+  orders = λ left. left;
   writes = λ table′ pen′ w. w;
 }
 
@@ -72,48 +78,40 @@ ends p records count table₀ table pen slot k gates depths h a =
 
 module _ (p : ℕ) (records : List ℕ) (count : ℕ) (table₀ table : List ℕ) (pen : Pen) (slot k : ℕ) (gates depths : List ℕ)
     (l : k < count) (a : Adds p records count table₀ table pen slot k gates depths) where
-  -- reading what is left, from this record on
-  going : readConditions slot (suc (count - (k + 1))) (recordAt records k) ≡ accepted (a .rest)
-  going = rw (one-less count k l) at (a .reads)
-
-  -- an accepted card has no record that is refused
-  pub unrefused : (number : ℕ) → refused number ≡ readCondition slot (lentAt records k) → ⊥
-  unrefused number e =
-      let first = ap (readCondition slot) (sym (lent-is records k)) ∙ sym e in
-      refused≢accepted (sym (first-refused slot (count - (k + 1)) number (recordAt records k) first) ∙ going)
-
   module _ (c : Condition) (e : accepted c ≡ readCondition slot (lentAt records k)) where
     -- the conditions after this one
-    later : (cs : List Condition)
-        × (readConditions (slot + c .digits) (count - (k + 1)) (drop 4 (recordAt records k)) ≡ accepted cs)
-        × (accepted (c ∷ cs) ≡ accepted (a .rest))
-    later =
-        let first = ap (readCondition slot) (sym (lent-is records k)) ∙ sym e in
-        answered _ _ (sym (first-read slot (count - (k + 1)) (recordAt records k) c first) ∙ going)
+    abbrev after : List Condition
+    after = others records count slot k (a .rest) l (a .reads) c e
 
-    abbrev others : List Condition
-    others = later .0
-
-    split : c ∷ others ≡ a .rest
-    split = accepted-same (later .2)
+    is-next : c ∷ after ≡ a .rest
+    is-next = split records count slot k (a .rest) l (a .reads) c e
 
     abbrev own : segment.Segment
     own = conditionSegment p c (pen .next)
 
     pub in-slots : InSlots c
-    in-slots = (subst (Every InSlots) (sym split) (a .each)) .0
+    in-slots = (subst (Every InSlots) (sym is-next) (a .each)) .0
 
     -- its gates, and those after it
-    whole : segments p (pen .next) (a .rest) ≡ own .gates ++ segments p (pen .next + length (own .gates)) others
+    whole : segments p (pen .next) (a .rest) ≡ own .gates ++ segments p (pen .next + length (own .gates)) after
     unfolding segments
-    whole = ap (segments p (pen .next)) (sym split)
+    whole = ap (segments p (pen .next)) (sym is-next)
 
-    room : pen .next + length (own .gates) + length (segments p (pen .next + length (own .gates)) others)
+    room : pen .next + length (own .gates) + length (segments p (pen .next + length (own .gates)) after)
         ≡ length (segments p 0 (conditionsOf count records))
     room = omega (arith, a .size, ap length whole ∙ length-append (own .gates) _)
 
     pub fits : pen .next + length (own .gates) ≤ length (segments p 0 (conditionsOf count records))
     fits = omega (arith, room)
+
+    -- the condition at hand is among all, and so are those after it
+    pub own-order : isOrder (c .relation) ≡ true → anyOrder (conditionsOf count records) ≡ true
+    unfolding anyOrder
+    own-order h = a .orders (ap anyOrder (sym is-next) ∙ rw h)
+
+    after-order : anyOrder after ≡ true → anyOrder (a .rest) ≡ true
+    unfolding anyOrder
+    after-order h = ap anyOrder (sym is-next) ∙ rw h (or-true (isOrder (c .relation)))
 
     -- one condition more
     pub adds : (table′ : List ℕ) (pen′ : Pen) (g d : ℕ) → Wrote table pen (own .gates) table′ pen′ → Moved pen (length (own .gates)) pen′
@@ -124,19 +122,20 @@ module _ (p : ℕ) (records : List ℕ) (count : ℕ) (table₀ table : List ℕ
         let next : pen .next + length (own .gates) ≡ pen′ .next = sym (m .0) in
         record {
           most = omega arith;
-          rest = others;
-          reads = rw (next-record records k) (later .1);
-          each = (subst (Every InSlots) (sym split) (a .each)) .1;
-          size = ap (λ (n : ℕ). n + length (segments p n others)) (sym next) ∙ room;
+          rest = after;
+          reads = others-read records count slot k (a .rest) l (a .reads) c e;
+          each = (subst (Every InSlots) (sym is-next) (a .each)) .1;
+          size = ap (λ (n : ℕ). n + length (segments p n after)) (sym next) ∙ room;
           counts = (m .1, m .2);
           outputs =
-              ap (λ (ns : List segment.Node). ns ++ outputsFrom p (pen′ .next) others) (added (k + 1) k g d gates depths (add-one k) (omega arith) (omega arith))
-              ∙ append-assoc (nodes (take k gates) (take k depths)) (record { gate = g; depth = d } ∷ []) (outputsFrom p (pen′ .next) others)
-              ∙ ap (λ (o : segment.Node). nodes (take k gates) (take k depths) ++ (o ∷ outputsFrom p (pen′ .next) others)) o
-              ∙ ap (λ (n : ℕ). nodes (take k gates) (take k depths) ++ (own .output ∷ outputsFrom p n others)) (sym next)
-              ∙ ap (λ (cs : List Condition). nodes (take k gates) (take k depths) ++ outputsFrom p (pen .next) cs) split
+              ap (λ (ns : List segment.Node). ns ++ outputsFrom p (pen′ .next) after) (added (k + 1) k g d gates depths (add-one k) (omega arith) (omega arith))
+              ∙ append-assoc (nodes (take k gates) (take k depths)) (record { gate = g; depth = d } ∷ []) (outputsFrom p (pen′ .next) after)
+              ∙ ap (λ (o : segment.Node). nodes (take k gates) (take k depths) ++ (o ∷ outputsFrom p (pen′ .next) after)) o
+              ∙ ap (λ (n : ℕ). nodes (take k gates) (take k depths) ++ (own .output ∷ outputsFrom p n after)) (sym next)
+              ∙ ap (λ (cs : List Condition). nodes (take k gates) (take k depths) ++ outputsFrom p (pen .next) cs) is-next
               ∙ a .outputs;
+          orders = λ later. a .orders (after-order later);
           writes = λ table″ pen″ rest.
               a .writes table″ pen″
-              (same-gates (sym whole) (then w (same-gates (ap (λ (n : ℕ). segments p n others) (sym next)) rest)));
+              (same-gates (sym whole) (then w (same-gates (ap (λ (n : ℕ). segments p n after) (sym next)) rest)));
         }

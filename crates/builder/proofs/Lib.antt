@@ -1,5 +1,7 @@
 -- Laws of building.
 pub mod Conditions
+pub mod Rest
+pub mod Orders
 pub mod Adding
 pub mod Building
 pub mod Relations

@@ -1,6 +1,6 @@
 -- The conditions of a card as they are written one after the other (document 01, "Whole card": "Conditions in order").
 use mathlib.Core.Path.{_≡_}
-use mathlib.Core.Bool.{Bool, true, false}
+use mathlib.Core.Bool.{Bool, true, false, _||_}
 use mathlib.Core.List.{List, [], _∷_, _++_}
 use Prim.Native.Nat.{ℕ, _+_, _*_, _≤_}
 use lib.ListN.{length}
@@ -10,12 +10,12 @@ use Rattle.circuit.specs.Every.{Every}
 use Rattle.circuit.specs.Gate.{Gate, Flip}
 use Rattle.circuit.specs.Segment as segment
 use Rattle.comparison.specs.Condition.{Condition}
+use Rattle.comparison.specs.Relation.{isOrder}
 use Rattle.comparison.specs.Writing.{conditionSegment}
 use Rattle.query.specs.Card.{mostConditions}
 use Rattle.query.specs.Reading.{readConditions}
 use Rattle.card.specs.Parts.{relationIs}
 use Rattle.card.specs.declared.Relation.{Relation}
-use Rattle.writer.specs.declared.Pen.{Pen}
 use Rattle.writer.specs.declared.Slots.{Slots}
 
 -- the condition that the code holds as a relation and slots
@@ -51,13 +51,14 @@ InSlots c =
 abbrev pub conditionsOf : ℕ → List ℕ → List Condition
 conditionsOf count records = onAnswer (readConditions 0 count records) (λ number. []) (λ cs. cs)
 
+-- whether one of the conditions compares by order
+unfoldable pub anyOrder : List Condition → Bool
+anyOrder [] = false
+anyOrder (c ∷ cs) = isOrder (c .relation) || anyOrder cs
+
 -- records of an accepted card
 pub record Readable (count : ℕ) (records : List ℕ) : Type 0 where
   pub long : 4 * count ≤ length records
   pub few : count ≤ mostConditions
   pub reads : readConditions 0 count records ≡ accepted (conditionsOf count records)
   pub each : Every InSlots (conditionsOf count records)
-
--- a pen that has written nothing
-abbrev pub fresh : Pen
-fresh = record { next = 0; products = 0; squares = 0 }

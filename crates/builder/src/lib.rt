@@ -12,7 +12,8 @@ use writer::Pen;
 use writer::Slots;
 use writer::Written;
 ghost use mathlib.Core.Path.{_≡_};
-ghost use Prim.Native.Nat.{_+_, _*_, _%_, _≤_, _<_};
+ghost use mathlib.Core.Bool.{true};
+ghost use Prim.Native.Nat.{_+_, _*_, _/_, _%_, _≤_, _<_};
 ghost use lib.ListN.{length, take};
 ghost use Rattle.answer.specs.Outcome.{accepted};
 ghost use Rattle.answer.specs.Report.{reportAnswer};
@@ -21,16 +22,17 @@ ghost use Rattle.field.specs.Bit.{bit};
 ghost use Rattle.digits.specs.Number.{mostDigits};
 ghost use Rattle.circuit.specs.Table.{mostGates};
 ghost use Rattle.comparison.specs.OrderDigit.{powerCount};
+ghost use Rattle.comparison.specs.Relation.{isOrder};
 ghost use Rattle.comparison.specs.Writing.{conditionSegment};
 ghost use Rattle.order.specs.Constants.{Constants};
 ghost use Rattle.writer.specs.Factors.{nodes};
 ghost use Rattle.writer.specs.Nodes.{nodeIs};
-ghost use Rattle.writer.specs.Pen.{Wrote, Room, Moved};
+ghost use Rattle.writer.specs.Pen.{fresh, Wrote, Room, Moved};
 ghost use Rattle.query.specs.Card.{mostConditions};
 ghost use Rattle.query.specs.Outcomes.{building};
-ghost use Rattle.card.specs.Parts.{headIs, readSummary};
+ghost use Rattle.card.specs.Parts.{relationIs, headIs, readSummary};
 ghost use Rattle.builder.specs.Buildable.{Buildable, reportIs};
-ghost use Rattle.builder.specs.Conditions.{conditionIs, flipGates, flipNode, segments, outputsFrom, InSlots, conditionsOf, Readable, fresh};
+ghost use Rattle.builder.specs.Conditions.{conditionIs, flipGates, flipNode, segments, outputsFrom, InSlots, conditionsOf, anyOrder, Readable};
 
 // A condition with the FLIP of its output at the end, or as it is.
 fn put_ending(table: &mut [u8], written: Written, flipped: bool) -> Written
@@ -62,7 +64,7 @@ fn put_condition(
     powers: &mut [u16],
 ) -> Written
     requires { ⌜ Room (now table) pen (length (conditionSegment p (conditionIs relation slots) (pen .next) .gates)) × (3 ≤ p) × (p % 2 ≡ 1) × (p < 256) × InSlots (conditionIs relation slots) ⌝ }
-    requires { ⌜ Constants p (now constants) × (powerCount p < length (now powers)) ⌝ }
+    requires { ⌜ ((isOrder (relationIs relation) ≡ true) → Constants p (now constants)) × (powerCount p < length (now powers)) ⌝ }
     ensures wrote { λ r. ⌜ Wrote (now (table .entry)) pen (conditionSegment p (conditionIs relation slots) (pen .next) .gates) (now (table .exit)) (r .pen) ⌝ }
     ensures moves { λ r. ⌜ Moved pen (length (conditionSegment p (conditionIs relation slots) (pen .next) .gates)) (r .pen) ⌝ }
     ensures output { λ r. ⌜ nodeIs (r .node) ≡ conditionSegment p (conditionIs relation slots) (pen .next) .output ⌝ }
@@ -90,21 +92,16 @@ fn put_conditions(
 ) -> Pen
     requires { ⌜ Readable count (now records) × (3 ≤ p) × (p % 2 ≡ 1) × (p < 256) × (count ≤ length (now gates)) × (count ≤ length (now depths)) ⌝ }
     requires { ⌜ (8 * (length (segments p 0 (conditionsOf count (now records))) + 1) ≤ length (now table)) × (length (segments p 0 (conditionsOf count (now records))) ≤ mostGates) ⌝ }
-    requires { ⌜ Constants p (now constants) × (powerCount p < length (now powers)) ⌝ }
+    requires { ⌜ ((anyOrder (conditionsOf count (now records)) ≡ true) → Constants p (now constants)) × (powerCount p < length (now powers)) ⌝ }
     ensures wrote { λ r. ⌜ Wrote (now (table .entry)) fresh (segments p 0 (conditionsOf count (now (records .entry)))) (now (table .exit)) r ⌝ }
     ensures moves { λ r. ⌜ Moved fresh (length (segments p 0 (conditionsOf count (now (records .entry))))) r ⌝ }
     ensures outputs { λ r. ⌜ nodes (take count (now (gates .exit))) (take count (now (depths .exit))) ≡ outputsFrom p 0 (conditionsOf count (now (records .entry))) ⌝ }
 {
-    let mut pen = Pen {
-        next: 0,
-        products: 0,
-        squares: 0,
-    };
+    let mut pen = writer::new_pen();
     let mut slot: u16 = 0;
     let mut k = 0;
     while k < count {
-        let at = card::RECORD * k;
-        match card::read_condition(&records[at..]) {
+        match card::read_condition(&records[card::RECORD * k..]) {
             ConditionRead::Read { relation, digits } => {
                 let slots = Slots {
                     count: digits as u16,
@@ -122,6 +119,40 @@ fn put_conditions(
         k += 1;
     }
     pen
+}
+
+// Whether one of the first count records has an order relation.
+fn has_order(records: &[u8], count: usize) -> bool
+    requires { ⌜ Readable count (now records) ⌝ }
+    ensures { λ r. ⌜ r ≡ anyOrder (conditionsOf count (now (records .entry))) ⌝ }
+{
+    let mut k = 0;
+    while k < count {
+        let at = card::RECORD * k;
+        match card::read_condition(&records[at..]) {
+            ConditionRead::Read {
+                relation,
+                digits: _,
+            } => {
+                if card::is_order(relation) {
+                    return true;
+                }
+            }
+            ConditionRead::Refused(_) => return false,
+        }
+        k += 1;
+    }
+    false
+}
+
+// The order constants of a prime, which only records with an order relation ask for.
+fn put_constants(records: &[u8], count: usize, prime: u8, constants: &mut [u8])
+    requires { ⌜ Readable count (now records) × (3 ≤ prime) × (prime % 2 ≡ 1) × (prime / 2 + 1 ≤ length (now constants)) ⌝ }
+    ensures { λ _. ⌜ ((anyOrder (conditionsOf count (now (records .entry))) ≡ true) → Constants prime (now (constants .exit))) ⌝ }
+{
+    if has_order(records, count) {
+        field::put_order_constants(prime, constants);
+    }
 }
 
 // The report on gates that were counted while they were written; the last is the output.
@@ -156,10 +187,11 @@ fn write_table(
     ensures leaves { λ r. ⌜ now (table .exit) ≡ building (now (card .entry)) (now (table .entry)) .lent ⌝ }
 {
     let conditions = table::wide(head.count);
-    field::put_order_constants(head.prime, constants);
+    let records = &card[card::HEAD..];
+    put_constants(records, conditions, head.prime, constants);
     writer::put_head(table, head.prime, head.weight, head.slots, count);
     let pen = put_conditions(
-        &card[card::HEAD..],
+        records,
         conditions,
         head.prime as u16,
         table,

@@ -29,3 +29,7 @@ Room table pen n =
 -- the pen after n gates more
 abbrev pub Moved : Pen → ℕ → Pen → Type 0
 Moved pen n pen′ = (pen′ .next ≡ pen .next + n) × (pen′ .products ≤ pen′ .next) × (pen′ .squares ≤ pen′ .next)
+
+-- a pen that has written nothing
+abbrev pub fresh : Pen
+fresh = record { next = 0; products = 0; squares = 0 }

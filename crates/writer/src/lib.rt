@@ -14,7 +14,7 @@ ghost use Rattle.circuit.specs.Table.{headBytes, mostGates};
 ghost use Rattle.comparison.specs.Difference.{minus};
 ghost use Rattle.writer.specs.Factors.{nodes, without, FirstLeast, Shallow};
 ghost use Rattle.writer.specs.Nodes.{nodeIs};
-ghost use Rattle.writer.specs.Pen.{Wrote, Room, Moved};
+ghost use Rattle.writer.specs.Pen.{fresh, Wrote, Room, Moved};
 
 // The number of the next gate, and the products and squares so far.
 pub struct Pen {
@@ -40,6 +40,17 @@ pub struct Slots {
     pub count: u16,
     pub left: u16,
     pub right: u16,
+}
+
+// A pen that has written nothing.
+pub fn new_pen() -> Pen
+    ensures { λ r. ⌜ r ≡ fresh ⌝ }
+{
+    Pen {
+        next: 0,
+        products: 0,
+        squares: 0,
+    }
 }
 
 // Writes the head of a table.

@@ -82,7 +82,7 @@ put-order-requires c κs =
         within .2,
         within .3,
       ),
-      s .pre .1,
+      (s .pre .1 .0 (sym (o .is-order .ensures) ∙ b .before .if1 .taken), s .pre .1 .1),
     )
 
 put-ending-requires : tie.Need-put-ending-requires

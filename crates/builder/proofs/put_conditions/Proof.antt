@@ -13,7 +13,8 @@ use Rattle.query.specs.Reading.{readCondition}
 use Rattle.card.specs.Parts.{relationIs, conditionAt, conditionAnswer}
 use Rattle.card.proofs.Conditions.{lentAt, lent-long}
 use Rattle.builder.specs.Conditions.{segments, InSlots, conditionsOf}
-use Rattle.builder.proofs.Adding.{Adds, begins, ends, unrefused, in-slots, fits, adds}
+use Rattle.builder.proofs.Adding.{Adds, begins, ends, in-slots, fits, own-order, adds}
+use Rattle.builder.proofs.Rest.{unrefused}
 use Rattle.builder.proofs.put_conditions.Statement.{statement}
 use Rattle.builder.proofs.put_conditions.Tie as tie
 
@@ -30,7 +31,7 @@ abbrev μ-loop : tie.MeasureT-loop
 
 -- where the function and the turn began
 abbrev start : tie.At-loop Inv-loop μ-loop → tie.Start Inv-loop μ-loop
-start l = l .before .before .before .before .before .before .before
+start l = l .before .before .before .before .before .before .before .before
 
 abbrev turn : tie.After-relation Inv-loop μ-loop → tie.At-loop Inv-loop μ-loop
 turn c = c .before .before .before .before .before
@@ -61,13 +62,16 @@ fit : (c : tie.After-relation Inv-loop μ-loop) → (
 fit c =
     let l = turn c in fits _ _ _ _ _ _ _ _ _ _ (less c) (l .loop .inv .0) (condition c) (read c)
 
+new-pen-requires : tie.Need-new-pen-requires Inv-loop μ-loop
+new-pen-requires c κs = search needs
+
 loop-holds : tie.Need-loop-holds Inv-loop μ-loop
 loop-holds c =
-    let s = c .before .before .before .before .before .before in
-    (begins (s .args .p) _ _ _ _ _ (s .pre .0 .0), refl, refl, refl, refl)
+    let s = c .before .before .before .before .before .before .before in
+    (rw (c .new-pen .ensures) (begins (s .args .p) _ _ _ _ _ (s .pre .0 .0)), refl, refl, refl, refl)
 
-mul-at : tie.Need-mul-at Inv-loop μ-loop
-mul-at c = search needs
+mul-read-condition : tie.Need-mul-read-condition Inv-loop μ-loop
+mul-read-condition c = search needs
 
 sub-read-condition : tie.Need-sub-read-condition Inv-loop μ-loop
 sub-read-condition c = search needs
@@ -95,21 +99,30 @@ put-condition-requires c κs =
     let r = c .before .before .before in
     let l = turn r in
     let s = start l in
-    ((omega (arith, fit r, l .loop .inv .0 .counts, l .loop .inv .1, s .pre .1 .0), s .pre .0 .1, s .pre .0 .2, s .pre .0 .3, slotted r), (s .pre .1 .1 .0, omega (arith, l .loop .inv .2, s .pre .1 .1 .1)))
+    let order = own-order _ _ _ _ _ _ _ _ _ _ (less r) (l .loop .inv .0) (condition r) (read r) in (
+      (omega (arith, fit r, l .loop .inv .0 .counts, l .loop .inv .1, s .pre .1 .0), s .pre .0 .1, s .pre .0 .2, s .pre .0 .3, slotted r),
+      (λ h. s .pre .1 .1 .0 (order h), omega (arith, l .loop .inv .2, s .pre .1 .1 .1)),
+    )
 
 mul-gates : tie.Need-mul-gates Inv-loop μ-loop
 mul-gates c =
     let r = c .before .before .before .before .before .before .before .before in omega (arith, less r, start (turn r) .pre .0 .0 .few)
 
 slice-write-gates : tie.Need-slice-write-gates Inv-loop μ-loop
-slice-write-gates c = search needs
+slice-write-gates c =
+    let r = c .before .before .before .before .before .before .before .before in
+    let l = turn r in
+    omega (arith, less r, l .loop .inv .3, start l .pre .0 .4)
 
 mul-depths : tie.Need-mul-depths Inv-loop μ-loop
 mul-depths c =
     let r = c .before .before .before .before .before .before .before .before in omega (arith, less r, start (turn r) .pre .0 .0 .few)
 
 slice-write-depths : tie.Need-slice-write-depths Inv-loop μ-loop
-slice-write-depths c = search needs
+slice-write-depths c =
+    let r = c .before .before .before .before .before .before .before .before in
+    let l = turn r in
+    omega (arith, less r, l .loop .inv .4, start l .pre .0 .5)
 
 cast-slot-2 : tie.Need-cast-slot-2 Inv-loop μ-loop
 cast-slot-2 c = search needs
@@ -136,11 +149,12 @@ returns : tie.Need-returns Inv-loop μ-loop
 returns c =
     let r = c .before .before in
     let l = r .before .before .before in
-    absurd (unrefused _ _ _ _ _ _ _ _ _ _ (r .before .before .loop-test .taken) (l .loop .inv .0) _
+    absurd (unrefused _ _ _ _ _ (r .before .before .loop-test .taken) (l .loop .inv .0 .reads) _
     (sym (ap (conditionAnswer (l .loop .slot)) (c .enum-told .given .1)) ∙ r .read-condition .ensures (l .loop .slot)))
 
 add-k : tie.Need-add-k Inv-loop μ-loop
-add-k c = search needs
+add-k c =
+    let r = c .before .before .before .before .before .before .before .before .before in omega (arith, less r, start (turn r) .pre .0 .0 .few)
 
 loop-less : tie.Need-loop-less Inv-loop μ-loop
 loop-less c = search needs
@@ -183,8 +197,9 @@ put-conditions-spec =
     (tie.spec
     Inv-loop
     μ-loop
+    new-pen-requires
     loop-holds
-    mul-at
+    mul-read-condition
     sub-read-condition
     part-read-condition-start
     part-read-condition-end

@@ -7,8 +7,7 @@ use Rattle.circuit.specs.Segment as segment
 use Rattle.circuit.specs.Table.{headBytes}
 use native.Mathlib.Omega.{arith}
 use Rattle.card.proofs.Summary.{records-lent}
-use Rattle.writer.specs.Pen.{Wrote}
-use Rattle.builder.specs.Conditions.{fresh}
+use Rattle.writer.specs.Pen.{fresh, Wrote}
 use Rattle.builder.proofs.Building.{headOf, gatesSaid, outputsSaid, card-long, prime-facts, count-facts, readable-said, shallow-said, room-said, answers-said, leaves-said, counts-said}
 use borrow.Author.Needs.{needs}
 use Rattle.builder.proofs.write_table.Statement.{statement}
@@ -21,47 +20,48 @@ start q = q .before .before .before .before .before .before .before .before .bef
 wide-requires : tie.Need-wide-requires
 wide-requires c κs = search needs
 
-put-order-constants-requires : tie.Need-put-order-constants-requires
-put-order-constants-requires c κs =
-    let s = c .before .before .before .before .before .before .before .before in
+sub-records : tie.Need-sub-records
+sub-records c = card-long _ _ _ _ (c .before .before .before .before .before .before .before .pre .0)
+
+part-records-start : tie.Need-part-records-start
+part-records-start c = card-long _ _ _ _ (c .before .before .before .before .before .before .before .pre .0)
+
+part-records-end : tie.Need-part-records-end
+part-records-end c = search needs
+
+put-constants-requires : tie.Need-put-constants-requires
+put-constants-requires c κs =
+    let w = c .before .before in
+    let s = w .before .before .before .before .before .before .before in
     let facts = prime-facts _ _ _ _ (s .pre .0) in
-    (facts .0, facts .1, omega (arith, facts .2, s .pre .1 .0))
+    rw (w .wide .ensures .0, records-lent) (readable-said _ _ _ _ (s .pre .0), facts .0, facts .1, omega (arith, facts .2, s .pre .1 .0))
 
 put-head-requires : tie.Need-put-head-requires
 put-head-requires c κs = search needs
-
-sub-put-conditions : tie.Need-sub-put-conditions
-sub-put-conditions c = card-long _ _ _ _ (c .before .before .before .before .before .before .before .before .before .before .before .before .before .before .before .pre .0)
-
-part-put-conditions-start : tie.Need-part-put-conditions-start
-part-put-conditions-start c = card-long _ _ _ _ (c .before .before .before .before .before .before .before .before .before .before .before .before .before .before .before .pre .0)
-
-part-put-conditions-end : tie.Need-part-put-conditions-end
-part-put-conditions-end c = search needs
 
 cast-put-conditions : tie.Need-cast-put-conditions
 cast-put-conditions c = search needs
 
 put-conditions-requires : tie.Need-put-conditions-requires
 put-conditions-requires c κs =
-    let h = c .before .before .before .before .before .before .before .before .before in
+    let h = c .before .before .before .before .before .before .before .before in
     let o = h .before .before .before .before in
-    let w = o .before .before in
+    let w = o .before .before .before in
     let s = w .before .before .before .before .before .before .before in
     let facts = prime-facts _ _ _ _ (s .pre .0) in
     let counts = count-facts _ _ _ _ (s .pre .0) in
     let room = room-said _ _ _ _ (s .pre .0) in
     rw (w .wide .ensures .0, records-lent) (
       (readable-said _ _ _ _ (s .pre .0), facts .0, facts .1, omega (arith, facts .2), omega (arith, counts, s .pre .1), omega (arith, counts, s .pre .1)),
-      ((omega (arith, room, h), omega (arith, room)), (record { later = _; begins = o .put-order-constants .ensures }, omega (arith, facts .2, s .pre .1))),
+      ((omega (arith, room, h), omega (arith, room)), (rw (w .wide .ensures .0, records-lent) at (o .put-constants .ensures), omega (arith, facts .2, s .pre .1))),
     )
 
 put-product-tree-requires : tie.Need-put-product-tree-requires
 put-product-tree-requires c κs =
     let q = c .before .before .before .before .before .before .before .before .before .before .before in
-    let h = q .before .before .before .before .before .before .before .before .before .before in
+    let h = q .before .before .before .before .before .before .before .before .before in
     let o = h .before .before .before .before in
-    let w = o .before .before in
+    let w = o .before .before .before in
     let s = w .before .before .before .before .before .before .before in
     let e = rw (w .wide .ensures .0, records-lent) at (q .put-conditions .ensures) in
     let counts = count-facts _ _ _ _ (s .pre .0) in
@@ -78,8 +78,8 @@ conditions-wrote : (q : tie.After-put-conditions) → (
     (q .put-conditions .last .1 .1 .1 .0) (q .put-conditions .result)
     )
 conditions-wrote q =
-    let h = q .before .before .before .before .before .before .before .before .before .before in
-    rw (h .before .before .before .before .before .before .wide .ensures .0, records-lent, h .put-head .ensures) at (q .put-conditions .ensures .0)
+    let h = q .before .before .before .before .before .before .before .before .before in
+    rw (h .before .before .before .before .before .before .before .wide .ensures .0, records-lent, h .put-head .ensures) at (q .put-conditions .ensures .0)
 
 -- and the product tree over their outputs
 tree-wrote : (t : tie.After-put-product-tree) → (
@@ -90,8 +90,8 @@ tree-wrote : (t : tie.After-put-product-tree) → (
     )
 tree-wrote t =
     let q = t .before .before .before .before .before .before .before .before .before .before .before .before in
-    let h = q .before .before .before .before .before .before .before .before .before .before in
-    let w = h .before .before .before .before .before .before in
+    let h = q .before .before .before .before .before .before .before .before .before in
+    let w = h .before .before .before .before .before .before .before in
     let outputs = rw (w .wide .ensures .0, records-lent) at (q .put-conditions .ensures .1 .1) in
     let e = rw (w .wide .ensures .0, outputs) at (t .put-product-tree .ensures) in
     (e .0, ap (λ (f : segment.Node). f .depth) (e .1 .1))
@@ -106,10 +106,10 @@ same-length : tie.Need-same-length
 same-length c =
     let t = c .before .before .before .before .before .before .before in
     let q = t .before .before .before .before .before .before .before .before .before .before .before .before in
-    omega (arith, t, q, q .before .before .before .before .before .before .before .before .before .before)
+    omega (arith, t, q, q .before .before .before .before .before .before .before .before .before)
 
 same-length-2 : tie.Need-same-length-2
-same-length-2 c = omega (arith, c .before .before .before .before .before .before .before .before .before .before .before .before .before .before .before .before .before .before .before .before .before .before .before .before .before .before .before .before .before .before .before .before .before)
+same-length-2 c = omega (arith, c .before .before .before .before .before .before .before .before .before .before .before .before .before .before .before .before .before .before .before .before .before .before .before .before .before .before .before .before .before .before .before .before)
 
 same-length-3 : tie.Need-same-length-3
 same-length-3 c = search needs
@@ -134,11 +134,11 @@ write-table-spec =
     tie.close
     (tie.spec
     wide-requires
-    put-order-constants-requires
+    sub-records
+    part-records-start
+    part-records-end
+    put-constants-requires
     put-head-requires
-    sub-put-conditions
-    part-put-conditions-start
-    part-put-conditions-end
     cast-put-conditions
     put-conditions-requires
     put-product-tree-requires

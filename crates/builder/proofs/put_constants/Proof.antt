@@ -1,0 +1,27 @@
+-- `builder::put_constants` meets its contract: where a condition compares by order the constants are written, and where none does they are not asked for.
+-- Assumes nothing.
+use mathlib.Core.Path.{_≡_, sym, _∙_}
+use mathlib.Core.Bool.{false, true≢false}
+use borrow.Author.Needs.{needs}
+use Rattle.builder.proofs.put_constants.Statement.{statement}
+use Rattle.builder.proofs.put_constants.Tie as tie
+
+has-order-requires : tie.Need-has-order-requires
+has-order-requires c κs = search needs
+
+put-order-constants-requires : tie.Need-put-order-constants-requires
+put-order-constants-requires c κs = search needs
+
+same-length : tie.Need-same-length
+same-length c = search needs
+
+returns : tie.Need-returns
+returns c asked = record { later = _; begins = c .before .before .put-order-constants .ensures }
+
+returns-2 : tie.Need-returns-2
+returns-2 c asked =
+    let none : c .before .has-order .result ≡ false = c .if1 .left in
+    absurd (true≢false (sym asked ∙ sym (c .before .has-order .ensures) ∙ none))
+
+pub put-constants-spec : {M : Type 1} → statement M
+put-constants-spec = tie.close (tie.spec has-order-requires put-order-constants-requires same-length returns returns-2)
