@@ -1,5 +1,5 @@
-// Prints what Encode, Decode, Check, Trim and Run answer at the borders of their rules, a line a case,
-// for comparison with the stored output.
+// Prints what the operations answer at the borders of their rules, a line a case, for comparison with
+// the stored output.
 use answer::Reported;
 use digits::Decoded;
 use digits::Encoded;
@@ -32,6 +32,29 @@ fn print_digits(digits: &[u8]) {
     }
 }
 
+// A number in which every byte counts.
+fn checksum(bytes: &[u8]) -> usize {
+    let mut sum = 1;
+    let mut i = 0;
+    while i < bytes.len() {
+        sum = (257 * sum + table::wide(bytes[i])) % 65521;
+        i += 1;
+    }
+    sum
+}
+
+// Every lent byte, or the checksum of many.
+fn print_lent(bytes: &[u8]) {
+    print(b", lent");
+    if bytes.len() <= 80 {
+        print_digits(bytes);
+    } else {
+        print(b" checksum ");
+        print_number(checksum(bytes) as u64);
+    }
+    print(b"\n");
+}
+
 fn print_refusal(why: answer::Refusal) {
     print(b" refused ");
     print_number(answer::refusal_number(why) as u64);
@@ -50,9 +73,7 @@ fn show_encode(p: u8, n: usize, number: u64, out: &mut [u8]) {
         Encoded::Done => print(b" done"),
         Encoded::Refused(why) => print_refusal(why),
     }
-    print(b", lent");
-    print_digits(out);
-    print(b"\n");
+    print_lent(out);
 }
 
 fn show_decode(p: u8, digits: &[u8]) {
@@ -199,8 +220,8 @@ fn bench_table() -> [u8; 66]
     BENCH
 }
 
-fn show_report(bytes: &[u8]) {
-    match table::check(bytes) {
+fn print_report(answer: Reported) {
+    match answer {
         Reported::Success(told) => {
             print(b" gates ");
             print_number(told.gates as u64);
@@ -219,7 +240,7 @@ fn show_report(bytes: &[u8]) {
 
 // What Check and Trim answer on the bytes.
 fn show_table(bytes: &[u8]) {
-    show_report(bytes);
+    print_report(table::check(bytes));
     print(b", trimmed to ");
     print_number(table::trim(bytes).len() as u64);
     print(b"\n");
@@ -266,23 +287,25 @@ fn length_cases() {
     }
 }
 
-// Run on the bench table: the answer, and every lent byte afterwards.
-fn show_run(left: &[u8], right: &[u8], work: &mut [u8]) {
+// Run on a table: the answer, and the lent bytes afterwards.
+fn show_run_of(table: &[u8], left: &[u8], right: &[u8], work: &mut [u8]) {
     print(b"run left");
     print_digits(left);
     print(b" right");
     print_digits(right);
     print(b":");
-    match table::run(&bench_table(), left, right, work) {
+    match table::run(table, left, right, work) {
         Ran::Output(value) => {
             print(b" output ");
             print_number(value as u64);
         }
         Ran::Refused(why) => print_refusal(why),
     }
-    print(b", lent");
-    print_digits(work);
-    print(b"\n");
+    print_lent(work);
+}
+
+fn show_run(left: &[u8], right: &[u8], work: &mut [u8]) {
+    show_run_of(&bench_table(), left, right, work);
 }
 
 // The digits below B = 2.
@@ -309,6 +332,299 @@ fn refused_runs() {
     show_run(&[0], &[0], &mut [9; 6]);
 }
 
+// A card of one condition.
+fn card_of_one(prime: u8, weight: u8, relation: u8, n: u8) -> [u8; 10] {
+    [0xC5, 0x48, prime, weight, 1, 0, 0xC5, 0x51, relation, n]
+}
+
+// A card of two condition records.
+fn card_of_two(prime: u8, weight: u8, first: [u8; 4], second: [u8; 4]) -> [u8; 14] {
+    [
+        0xC5,
+        0x48,
+        prime,
+        weight,
+        2,
+        0,
+        first[0],
+        first[1],
+        first[2],
+        first[3],
+        second[0],
+        second[1],
+        second[2],
+        second[3],
+    ]
+}
+
+// A card of eight conditions of sixteen digits, with every relation: p = 11, s = 90.
+const EIGHT: [u8; 38] = [
+    0xC5,
+    0x48,
+    11,
+    90,
+    8,
+    0,
+    0xC5,
+    0x51,
+    6,
+    3,
+    0xC5,
+    0x51,
+    1,
+    1,
+    0xC5,
+    0x51,
+    5,
+    2,
+    0xC5,
+    0x51,
+    4,
+    1,
+    0xC5,
+    0x51,
+    2,
+    4,
+    0xC5,
+    0x51,
+    3,
+    2,
+    0xC5,
+    0x51,
+    5,
+    1,
+    0xC5,
+    0x51,
+    1,
+    2,
+];
+
+fn show_forecast(card: &[u8]) {
+    print(b"forecast card");
+    print_digits(card);
+    print(b":");
+    print_report(card::forecast(card));
+    print(b"\n");
+}
+
+// The answer, and the lent bytes afterwards.
+fn show_build(card: &[u8], table: &mut [u8]) {
+    print(b"build card");
+    print_digits(card);
+    print(b" into ");
+    print_number(table.len() as u64);
+    print(b":");
+    print_report(builder::build(card, table));
+    print_lent(table);
+}
+
+fn show_card(card: &[u8], table: &mut [u8]) {
+    show_forecast(card);
+    show_build(card, table);
+}
+
+// The first bench card: 64 bytes are enough.
+fn bench_builds() {
+    let card = card_of_one(3, 75, 1, 1);
+    show_card(&card, &mut [7; 64]);
+    show_build(&card, &mut [7; 63]);
+    show_build(&card, &mut []);
+    show_build(&card, &mut [7; 70]);
+}
+
+// Each relation in turn, into the bytes that the last one left.
+fn relation_builds(prime: u8, n: u8, table: &mut [u8]) {
+    let mut relation = 1;
+    while relation <= 6 {
+        show_card(&card_of_one(prime, 65, relation, n), table);
+        relation += 1;
+    }
+}
+
+fn digit_count_builds(prime: u8) {
+    relation_builds(prime, 1, &mut [7; 220]);
+    relation_builds(prime, 2, &mut [7; 440]);
+    relation_builds(prime, 3, &mut [7; 680]);
+    relation_builds(prime, 5, &mut [7; 1130]);
+}
+
+// Every rule broken, mended one at a time; no table is lent.
+fn refused_heads() {
+    show_card(&[], &mut []);
+    show_card(&[0, 0, 9, 49, 9], &mut []);
+    show_card(&[0, 0, 9, 49, 9, 1], &mut []);
+    show_card(&[0xC5, 0x48, 9, 49, 9, 1], &mut []);
+    show_card(&[0xC5, 0x48, 3, 49, 9, 1], &mut []);
+    show_card(&[0xC5, 0x48, 3, 75, 9, 1], &mut []);
+    show_card(&[0xC5, 0x48, 3, 75, 9, 0], &mut []);
+    show_card(&[0xC5, 0x48, 3, 75, 2, 0], &mut []);
+}
+
+fn show_records(first: [u8; 4], second: [u8; 4]) {
+    show_card(&card_of_two(3, 75, first, second), &mut []);
+}
+
+fn refused_records() {
+    show_records([0, 0, 7, 17], [0, 0, 7, 17]);
+    show_records([0xC5, 0x51, 7, 17], [0, 0, 7, 17]);
+    show_records([0xC5, 0x51, 1, 17], [0, 0, 7, 17]);
+    show_records([0xC5, 0x51, 1, 16], [0, 0, 7, 17]);
+    show_records([0xC5, 0x51, 1, 16], [0xC5, 0x51, 7, 17]);
+    show_records([0xC5, 0x51, 1, 16], [0xC5, 0x51, 5, 17]);
+    show_records([0xC5, 0x51, 1, 16], [0xC5, 0x51, 5, 1]);
+    show_records([0xC5, 0x51, 1, 8], [0xC5, 0x51, 1, 9]);
+    show_records([0xC5, 0x51, 1, 8], [0xC5, 0x51, 1, 8]);
+    show_records([0xC5, 0x51, 1, 1], [0xC5, 0x51, 5, 1]);
+}
+
+// One number beyond a border of the card.
+fn border_cards() {
+    show_card(&card_of_one(2, 75, 1, 1), &mut [7; 64]);
+    show_card(&card_of_one(249, 75, 1, 1), &mut [7; 64]);
+    show_card(&card_of_one(249, 49, 1, 1), &mut [7; 64]);
+    show_card(&card_of_one(3, 49, 1, 1), &mut [7; 64]);
+    show_card(&card_of_one(3, 50, 1, 1), &mut [7; 64]);
+    show_card(&card_of_one(3, 100, 1, 1), &mut [7; 64]);
+    show_card(&card_of_one(3, 101, 1, 1), &mut [7; 64]);
+    show_card(&card_of_one(3, 75, 0, 1), &mut [7; 64]);
+    show_card(&card_of_one(3, 75, 7, 1), &mut [7; 64]);
+    show_card(&card_of_one(3, 75, 1, 0), &mut [7; 64]);
+    show_card(&card_of_one(3, 75, 1, 17), &mut [7; 64]);
+}
+
+// The card of two conditions with one byte set to another.
+fn show_damaged_card(place: usize, byte: u8)
+    requires { ⌜ place < 14 ⌝ }
+{
+    let mut card = card_of_two(3, 75, [0xC5, 0x51, 1, 1], [0xC5, 0x51, 5, 1]);
+    card[place] = byte;
+    show_card(&card, &mut [7; 112]);
+}
+
+fn card_damages(byte: u8) {
+    let mut place = 0;
+    while place < 14 {
+        show_damaged_card(place, byte);
+        place += 1;
+    }
+}
+
+// Bytes missing or left over, by one or by a whole record.
+fn card_lengths() {
+    show_card(&[0xC5, 0x48, 3, 75, 1], &mut [7; 64]);
+    show_card(&[0xC5, 0x48, 3, 75, 1, 0], &mut [7; 64]);
+    show_card(&[0xC5, 0x48, 3, 75, 1, 0, 0xC5, 0x51, 1], &mut [7; 64]);
+    show_card(
+        &[0xC5, 0x48, 3, 75, 1, 0, 0xC5, 0x51, 1, 1, 0],
+        &mut [7; 64],
+    );
+    let mut card = EIGHT;
+    card[4] = 7;
+    show_card(&card, &mut [7; 81]);
+    card[4] = 9;
+    show_card(&card, &mut [7; 81]);
+}
+
+// Check, Trim and Run on the bytes that Build leaves.
+fn show_built(card: &[u8], left: &[u8], right: &[u8], table: &mut [u8], work: &mut [u8]) {
+    show_card(card, table);
+    print(b"check of it:");
+    show_table(table);
+    show_run_of(table, left, right, work);
+}
+
+// The cards of document 01's bench whose counts it tells.
+fn starred_builds() {
+    show_built(
+        &card_of_one(7, 50, 5, 1),
+        &[3],
+        &[3],
+        &mut [7; 64],
+        &mut [9; 7],
+    );
+    let less = card_of_one(5, 100, 1, 2);
+    show_built(&less, &[2, 1], &[1, 2], &mut [7; 208], &mut [9; 25]);
+    let at_most = card_of_one(5, 100, 2, 2);
+    show_built(&at_most, &[2, 1], &[1, 2], &mut [7; 220], &mut [9; 30]);
+    let both = card_of_two(5, 80, [0xC5, 0x51, 1, 1], [0xC5, 0x51, 5, 3]);
+    show_built(
+        &both,
+        &[1, 0, 1, 2],
+        &[2, 0, 1, 2],
+        &mut [7; 264],
+        &mut [9; 32],
+    );
+    show_built(
+        &both,
+        &[1, 0, 1, 2],
+        &[2, 0, 1, 1],
+        &mut [7; 263],
+        &mut [9; 32],
+    );
+}
+
+// Eight conditions that hold, then all but the last.
+fn eight_builds() {
+    let left = [1, 2, 3, 0, 4, 5, 3, 5, 5, 0, 2, 0, 3, 5, 5, 0];
+    let right = [1, 2, 4, 5, 4, 5, 3, 0, 0, 1, 2, 5, 2, 5, 0, 1];
+    let other = [1, 2, 4, 5, 4, 5, 3, 0, 0, 1, 2, 5, 2, 5, 5, 0];
+    let mut table = [7; 2310];
+    show_built(&EIGHT, &left, &right, &mut table, &mut [9; 300]);
+    show_run_of(&table, &left, &other, &mut [9; 287]);
+}
+
+// The largest prime.
+fn largest_builds() {
+    let equal = card_of_one(251, 50, 5, 2);
+    show_built(
+        &equal,
+        &[125, 250],
+        &[125, 250],
+        &mut [7; 280],
+        &mut [9; 40],
+    );
+    show_build(&equal, &mut [7; 271]);
+    show_card(&card_of_one(251, 100, 1, 16), &mut [7; 57200]);
+}
+
+fn print_output(table: &[u8], left: &[u8], right: &[u8]) {
+    match table::run(table, left, right, &mut [9; 26]) {
+        Ran::Output(value) => print_digit(value),
+        Ran::Refused(why) => print_refusal(why),
+    }
+}
+
+// The outputs for a record and each of the numbers 2, 3, 5 and 7.
+fn show_outputs(table: &[u8], left: &[u8]) {
+    print(b"outputs of");
+    print_digits(left);
+    print(b":");
+    print_output(table, left, &[2, 0]);
+    print_output(table, left, &[0, 1]);
+    print_output(table, left, &[2, 1]);
+    print_output(table, left, &[1, 2]);
+    print(b"\n");
+}
+
+// Each of those numbers against each: two digits at p = 5.
+fn relation_outputs(relation: u8) {
+    let mut table = [7; 216];
+    show_build(&card_of_one(5, 80, relation, 2), &mut table);
+    show_outputs(&table, &[2, 0]);
+    show_outputs(&table, &[0, 1]);
+    show_outputs(&table, &[2, 1]);
+    show_outputs(&table, &[1, 2]);
+}
+
+fn all_outputs() {
+    relation_outputs(1);
+    relation_outputs(2);
+    relation_outputs(3);
+    relation_outputs(4);
+    relation_outputs(5);
+    relation_outputs(6);
+}
+
 fn main() {
     encode_cases();
     decode_cases();
@@ -319,4 +635,19 @@ fn main() {
     digit_runs();
     value_runs();
     refused_runs();
+    bench_builds();
+    refused_heads();
+    refused_records();
+    border_cards();
+    card_damages(0);
+    card_damages(1);
+    card_damages(5);
+    card_damages(255);
+    card_lengths();
+    digit_count_builds(7);
+    digit_count_builds(13);
+    starred_builds();
+    eight_builds();
+    largest_builds();
+    all_outputs();
 }
