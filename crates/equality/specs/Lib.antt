@@ -1,3 +1,3 @@
--- Writing equality conditions: what remains of a piece, one bit of the collected power, and the condition of some slots.
+-- Writing equality conditions: one bit of the collected power, and the condition of some slots.
 pub mod Collecting
 pub mod Slots

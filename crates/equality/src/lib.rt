@@ -20,8 +20,8 @@ ghost use Rattle.comparison.specs.Writing.{equalityFactors};
 ghost use Rattle.writer.specs.Factors.{nodes};
 ghost use Rattle.writer.specs.Nodes.{nodeIs};
 ghost use Rattle.writer.specs.Pen.{Wrote, Room, Moved};
-ghost use Rattle.equality.specs.Collecting.{product, collectedBy, laterBits};
 ghost use Rattle.writer.specs.Remains.{Remains};
+ghost use Rattle.equality.specs.Collecting.{product, collectedBy, laterBits};
 ghost use Rattle.equality.specs.Slots.{equalityCondition, equalitySegment};
 
 // The power at the first set bit of t, and the bits of t above it.
@@ -99,7 +99,7 @@ fn put_collected(table: &mut [u8], first: Written, later: u16) -> Written
 }
 
 // 1 - z^(p-1) of the gate z before the pen.
-pub fn put_zero_test(table: &mut [u8], pen: Pen, p: u16) -> Written
+fn put_zero_test(table: &mut [u8], pen: Pen, p: u16) -> Written
     requires { ⌜ Room (now table) pen (flog (p - 1) + ones (p - 1)) × (1 ≤ pen .next) × (3 ≤ p) × (p % 2 ≡ 1) × (p < 256) ⌝ }
     ensures wrote { λ r. ⌜ Wrote (now (table .entry)) pen (zeroChain (bits (p - 1)) (pen .next) (pen .next - 1)) (now (table .exit)) (r .pen) ⌝ }
     ensures moves { λ r. ⌜ Moved pen (flog (p - 1) + ones (p - 1)) (r .pen) ⌝ }
@@ -121,7 +121,7 @@ fn put_equality_digit(table: &mut [u8], pen: Pen, p: u16, left: u16, right: u16)
 }
 
 // The digits of an equality condition; their outputs' gates and depths go to gates and depths.
-pub fn put_equality_digits(
+fn put_equality_digits(
     table: &mut [u8],
     pen: Pen,
     p: u16,

@@ -14,11 +14,11 @@ ghost use Rattle.writer.specs.Pen.{Wrote, Room, Moved};
 ghost use Rattle.joining.specs.Tests.{lessOf, equalOf};
 
 // What joining leaves of a run: the pen, the gates of its L and its E, and their depth.
-pub struct Joined {
-    pub pen: Pen,
-    pub less: u16,
-    pub equal: u16,
-    pub depth: u16,
+struct Joined {
+    pen: Pen,
+    less: u16,
+    equal: u16,
+    depth: u16,
 }
 
 // The gate of L of digit number j, of digits written from gate number k on; that of E is the next.
