@@ -477,19 +477,23 @@ fn refused_records() {
     show_records([0xC5, 0x51, 1, 1], [0xC5, 0x51, 5, 1]);
 }
 
-// One number beyond a border of the card.
+fn show_border(prime: u8, weight: u8, relation: u8, n: u8) {
+    show_card(&card_of_one(prime, weight, relation, n), &mut [7; 64]);
+}
+
+// One number at a border of the card, or beyond it.
 fn border_cards() {
-    show_card(&card_of_one(2, 75, 1, 1), &mut [7; 64]);
-    show_card(&card_of_one(249, 75, 1, 1), &mut [7; 64]);
-    show_card(&card_of_one(249, 49, 1, 1), &mut [7; 64]);
-    show_card(&card_of_one(3, 49, 1, 1), &mut [7; 64]);
-    show_card(&card_of_one(3, 50, 1, 1), &mut [7; 64]);
-    show_card(&card_of_one(3, 100, 1, 1), &mut [7; 64]);
-    show_card(&card_of_one(3, 101, 1, 1), &mut [7; 64]);
-    show_card(&card_of_one(3, 75, 0, 1), &mut [7; 64]);
-    show_card(&card_of_one(3, 75, 7, 1), &mut [7; 64]);
-    show_card(&card_of_one(3, 75, 1, 0), &mut [7; 64]);
-    show_card(&card_of_one(3, 75, 1, 17), &mut [7; 64]);
+    show_border(2, 75, 1, 1);
+    show_border(249, 75, 1, 1);
+    show_border(249, 49, 1, 1);
+    show_border(3, 49, 1, 1);
+    show_border(3, 50, 1, 1);
+    show_border(3, 100, 1, 1);
+    show_border(3, 101, 1, 1);
+    show_border(3, 75, 0, 1);
+    show_border(3, 75, 7, 1);
+    show_border(3, 75, 1, 0);
+    show_border(3, 75, 1, 17);
 }
 
 // The card of two conditions with one byte set to another.
@@ -535,32 +539,13 @@ fn show_built(card: &[u8], left: &[u8], right: &[u8], table: &mut [u8], work: &m
 
 // The cards of document 01's bench whose counts it tells.
 fn starred_builds() {
-    show_built(
-        &card_of_one(7, 50, 5, 1),
-        &[3],
-        &[3],
-        &mut [7; 64],
-        &mut [9; 7],
-    );
+    show_card(&card_of_one(7, 50, 5, 1), &mut [7; 64]);
     let less = card_of_one(5, 100, 1, 2);
     show_built(&less, &[2, 1], &[1, 2], &mut [7; 208], &mut [9; 25]);
-    let at_most = card_of_one(5, 100, 2, 2);
-    show_built(&at_most, &[2, 1], &[1, 2], &mut [7; 220], &mut [9; 30]);
+    show_card(&card_of_one(5, 100, 2, 2), &mut [7; 220]);
     let both = card_of_two(5, 80, [0xC5, 0x51, 1, 1], [0xC5, 0x51, 5, 3]);
-    show_built(
-        &both,
-        &[1, 0, 1, 2],
-        &[2, 0, 1, 2],
-        &mut [7; 264],
-        &mut [9; 32],
-    );
-    show_built(
-        &both,
-        &[1, 0, 1, 2],
-        &[2, 0, 1, 1],
-        &mut [7; 263],
-        &mut [9; 32],
-    );
+    show_card(&both, &mut [7; 264]);
+    show_build(&both, &mut [7; 263]);
 }
 
 // Eight conditions that hold, then all but the last.
@@ -587,33 +572,31 @@ fn largest_builds() {
     show_card(&card_of_one(251, 100, 1, 16), &mut [7; 57200]);
 }
 
-fn print_output(table: &[u8], left: &[u8], right: &[u8]) {
-    match table::run(table, left, right, &mut [9; 26]) {
+// The output for two numbers of two digits at p = 5.
+fn print_output(table: &[u8], left: u8, right: u8) {
+    let record = [left % 3, left / 3];
+    let query = [right % 3, right / 3];
+    match table::run(table, &record, &query, &mut [9; 26]) {
         Ran::Output(value) => print_digit(value),
         Ran::Refused(why) => print_refusal(why),
     }
 }
 
-// The outputs for a record and each of the numbers 2, 3, 5 and 7.
-fn show_outputs(table: &[u8], left: &[u8]) {
-    print(b"outputs of");
-    print_digits(left);
-    print(b":");
-    print_output(table, left, &[2, 0]);
-    print_output(table, left, &[0, 1]);
-    print_output(table, left, &[2, 1]);
-    print_output(table, left, &[1, 2]);
-    print(b"\n");
+// The numbers 2 to 5, each against each.
+fn print_outputs(table: &[u8]) {
+    let mut k = 0;
+    while k < 16 {
+        print_output(table, 2 + k / 4, 2 + k % 4);
+        k += 1;
+    }
 }
 
-// Each of those numbers against each: two digits at p = 5.
 fn relation_outputs(relation: u8) {
     let mut table = [7; 216];
     show_build(&card_of_one(5, 80, relation, 2), &mut table);
-    show_outputs(&table, &[2, 0]);
-    show_outputs(&table, &[0, 1]);
-    show_outputs(&table, &[2, 1]);
-    show_outputs(&table, &[1, 2]);
+    print(b"outputs");
+    print_outputs(&table);
+    print(b"\n");
 }
 
 fn all_outputs() {
