@@ -1,6 +1,7 @@
 -- Laws that other crates cite.
 pub mod Tests
 pub mod Primes
+pub mod Reciprocal
 pub mod Modular
 pub mod Bit
 pub mod Sum

@@ -133,6 +133,35 @@ pub fn mul_mod(a: u8, b: u8, p: u8) -> u8
     remainder((a as u16) * (b as u16), p)
 }
 
+// How often p goes into 65,536. With it a remainder takes two products and no division.
+fn reciprocal_of(p: u8) -> u16
+    requires { ⌜ 2 ≤ p ⌝ }
+    ensures { λ r. ⌜ r ≡ 65536 / p ⌝ }
+{
+    (65536 / (p as u32)) as u16
+}
+
+// x modulo p. The quotient that the reciprocal gives is the right one or one less.
+fn reduce(x: u16, p: u8, reciprocal: u16) -> u8
+    requires { ⌜ (2 ≤ p) × (reciprocal ≡ 65536 / p) ⌝ }
+    ensures { λ r. ⌜ r ≡ residue p x ⌝ }
+{
+    let quotient = ((x as u32) * (reciprocal as u32) / 65536) as u16;
+    let rest = x - quotient * (p as u16);
+    if rest < (p as u16) {
+        return rest as u8;
+    }
+    (rest - (p as u16)) as u8
+}
+
+// a times b modulo p, without a division.
+fn mul_reduced(a: u8, b: u8, p: u8, reciprocal: u16) -> u8
+    requires { ⌜ (2 ≤ p) × (reciprocal ≡ 65536 / p) ⌝ }
+    ensures { λ r. ⌜ r ≡ mulMod p a b ⌝ }
+{
+    reduce((a as u16) * (b as u16), p, reciprocal)
+}
+
 // The floor of log2 n, 0 at 0.
 pub fn floor_log2(n: u16) -> u16
     ensures { λ r. ⌜ r ≡ flog n ⌝ }
@@ -191,13 +220,13 @@ fn put_squares(list: &mut [u8], p: u8)
 }
 
 // Multiplies each entry by the factor at its place, modulo p.
-fn multiply_each(list: &mut [u8], factors: &[u8], p: u8)
-    requires { ⌜ length (now list) ≡ length (now factors) ⌝ }
+fn multiply_each(list: &mut [u8], factors: &[u8], p: u8, reciprocal: u16)
+    requires { ⌜ (length (now list) ≡ length (now factors)) × (2 ≤ p) × (reciprocal ≡ 65536 / p) ⌝ }
     ensures { λ _. ⌜ now (list .exit) ≡ productsMod p (now (list .entry)) (now (factors .entry)) ⌝ }
 {
     let mut i = 0;
     while i < list.len() {
-        list[i] = mul_mod(list[i], factors[i], p);
+        list[i] = mul_reduced(list[i], factors[i], p, reciprocal);
         i += 1;
     }
 }
@@ -219,14 +248,15 @@ fn sum_mod(list: &[u8], p: u8) -> u8
 // Puts the constants of the odd exponents below p at the start of constants, from the last one down. The powers b^1, b^3, .. go up by
 // a factor b^2 each time, so that a constant takes one product and one addition for each b.
 fn put_odd_constants(p: u8, powers: &mut [u8], squares: &[u8], constants: &mut [u8])
-    requires { ⌜ (p % 2 ≡ 1) × (now powers ≡ powersMod p 1 (p / 2)) × (now squares ≡ powersMod p 2 (p / 2)) × (p / 2 ≤ length (now constants)) ⌝ }
+    requires { ⌜ (2 ≤ p) × (p % 2 ≡ 1) × (now powers ≡ powersMod p 1 (p / 2)) × (now squares ≡ powersMod p 2 (p / 2)) × (p / 2 ≤ length (now constants)) ⌝ }
     ensures { λ _. ⌜ now (constants .exit) ≡ oddConstants p ++ drop (p / 2) (now (constants .entry)) ⌝ }
 {
+    let reciprocal = reciprocal_of(p);
     let mut m = powers.len();
     while 0 < m {
         m -= 1;
         constants[m] = sum_mod(powers, p);
-        multiply_each(powers, squares, p);
+        multiply_each(powers, squares, p, reciprocal);
     }
 }
 

@@ -46,12 +46,12 @@ low-more earlier d low room h = (rw length-append (omega arith), each)
 -- what is known between two turns: k records of count are read
 pub record Checks (head : Head) (table : List ℕ) (count k : ℕ) (depths : List ℕ) (m q : ℕ) (whole : Answer Report) : Type 0 where
   pub most : k ≤ count
-  pub long : length depths ≡ mostGates
+  pub long : count ≤ length depths
   pub few : m + q ≤ k
   pub low : AreLow (take k depths)
   pub goes : tallying head (take k depths) m q (readGates head k (count - k) (recordAt table k)) ≡ whole
 
-pub starts : (head : Head) (table : List ℕ) (count : ℕ) (depths : List ℕ) → length depths ≡ mostGates
+pub starts : (head : Head) (table : List ℕ) (count : ℕ) (depths : List ℕ) → count ≤ length depths
     → Checks head table count 0 depths 0 0 (reporting head (readGates head 0 count (drop 8 table)))
 starts head table count depths e = record {
   most = zero-le;
@@ -113,7 +113,7 @@ module _ (head : Head) (table : List ℕ) (count k : ℕ) (depths : List ℕ) (m
     one-more : Checks head table count (k + 1) (set depths k (added .depth)) (m + added .products) (q + added .squares) whole
     one-more = record {
       most = omega arith;
-      long = simp length-set (c .long);
+      long = rw length-set (c .long);
       few = omega (arith, c .few, one-at-most (isMul g) (eqb (fields g .a) (fields g .b)));
       low = rw more (low-more (take k depths) (added .depth) (c .low) (omega (arith, size)) (omega (arith, size, below)));
       goes = rw (more, next-record table k) going;

@@ -35,6 +35,9 @@ pub const RECORD: usize = 8;
 // The most gates of a table.
 const MOST_GATES: usize = 8191;
 
+// The gates of a small table.
+const FEW_GATES: usize = 256;
+
 // What Run answers.
 pub enum Ran {
     Output(u8),
@@ -287,13 +290,11 @@ pub fn cost_of(products: u32, squares: u32, weight: u8) -> Cost
     Cost(100 * products + (weight as u32) * squares)
 }
 
-// The report on the first count gates, or the first of their rules that is broken.
-fn check_gates(table: &[u8], head: TableHead, count: usize) -> Reported
-    requires { ⌜ (1 ≤ count) × (count ≤ mostGates) × (8 * (count + 1) ≤ length (now table)) ⌝ }
+// The report on the first count gates, or the first of their rules that is broken. Their depths go into depths.
+fn check_gates(table: &[u8], head: TableHead, count: usize, depths: &mut [u16]) -> Reported
+    requires { ⌜ (1 ≤ count) × (count ≤ mostGates) × (8 * (count + 1) ≤ length (now table)) × (count ≤ length (now depths)) ⌝ }
     ensures { λ r. ⌜ reportAnswer r ≡ reporting (headIs head) (readGates (headIs head) 0 count (drop 8 (now (table .entry)))) ⌝ }
 {
-    let last = count - 1;
-    let mut depths = [0u16; MOST_GATES];
     let mut products: u32 = 0;
     let mut squares: u32 = 0;
     let mut k = 0;
@@ -318,8 +319,36 @@ fn check_gates(table: &[u8], head: TableHead, count: usize) -> Reported
         products: products as u16,
         squares: squares as u16,
         cost: cost_of(products, squares, head.weight),
-        depth: Depth(depths[last]),
+        depth: Depth(depths[count - 1]),
     })
+}
+
+// The same with an array of depths that is quickly cleared, for up to 256 gates.
+fn check_few(table: &[u8], head: TableHead, count: usize) -> Reported
+    requires { ⌜ (1 ≤ count) × (count ≤ 256) × (8 * (count + 1) ≤ length (now table)) ⌝ }
+    ensures { λ r. ⌜ reportAnswer r ≡ reporting (headIs head) (readGates (headIs head) 0 count (drop 8 (now (table .entry)))) ⌝ }
+{
+    let mut depths = [0u16; FEW_GATES];
+    check_gates(table, head, count, &mut depths)
+}
+
+fn check_many(table: &[u8], head: TableHead, count: usize) -> Reported
+    requires { ⌜ (1 ≤ count) × (count ≤ mostGates) × (8 * (count + 1) ≤ length (now table)) ⌝ }
+    ensures { λ r. ⌜ reportAnswer r ≡ reporting (headIs head) (readGates (headIs head) 0 count (drop 8 (now (table .entry)))) ⌝ }
+{
+    let mut depths = [0u16; MOST_GATES];
+    check_gates(table, head, count, &mut depths)
+}
+
+// The report on the gates after a head, with room for their depths.
+fn check_after(table: &[u8], head: TableHead, count: usize) -> Reported
+    requires { ⌜ (1 ≤ count) × (count ≤ mostGates) × (8 * (count + 1) ≤ length (now table)) ⌝ }
+    ensures { λ r. ⌜ reportAnswer r ≡ reporting (headIs head) (readGates (headIs head) 0 count (drop 8 (now (table .entry)))) ⌝ }
+{
+    if count <= FEW_GATES {
+        return check_few(table, head, count);
+    }
+    check_many(table, head, count)
 }
 
 // The report on a table, or the first rule that it breaks. Later bytes are not looked at.
@@ -327,7 +356,7 @@ pub fn check(table: &[u8]) -> Reported
     ensures { λ r. ⌜ reportAnswer r ≡ checking (now (table .entry)) ⌝ }
 {
     match read_head(table) {
-        HeadRead::Read(head) => check_gates(table, head, u16_at(table, 6)),
+        HeadRead::Read(head) => check_after(table, head, u16_at(table, 6)),
         HeadRead::Refused(why) => Reported::Refused(why),
     }
 }

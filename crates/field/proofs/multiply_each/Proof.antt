@@ -16,10 +16,10 @@ abbrev Multiplied : ℕ → List ℕ → List ℕ → List ℕ → ℕ → Type 
 Multiplied p factors before list i = Filled (λ k. mulMod p (getD before k 0) (getD factors k 0)) before list i
 
 abbrev Inv-loop : tie.InvT-loop
-Inv-loop list₀ factors p i₀ list i = Multiplied p factors list₀ list i
+Inv-loop list₀ factors p reciprocal i₀ list i = Multiplied p factors list₀ list i
 
 abbrev μ-loop : tie.MeasureT-loop
-μ-loop list₀ factors p i₀ list i = length list₀ - i
+μ-loop list₀ factors p reciprocal i₀ list i = length list₀ - i
 
 turn : (p : ℕ) (factors before list : List ℕ) (i x : ℕ) → Multiplied p factors before list i → i < length list
     → x ≡ mulMod p (getD list i 0) (getD factors i 0) → Multiplied p factors before (set list i x) (i + 1)
@@ -31,15 +31,16 @@ turn p factors before list i x h l e =
 loop-holds : tie.Need-loop-holds Inv-loop μ-loop
 loop-holds c = filled-none _ _
 
-slice-read-mul-mod : tie.Need-slice-read-mul-mod Inv-loop μ-loop
-slice-read-mul-mod c = search needs
+slice-read-mul-reduced : tie.Need-slice-read-mul-reduced Inv-loop μ-loop
+slice-read-mul-reduced c = search needs
 
-shared-slice-read-mul-mod : tie.Need-shared-slice-read-mul-mod Inv-loop μ-loop
-shared-slice-read-mul-mod c =
+shared-slice-read-mul-reduced : tie.Need-shared-slice-read-mul-reduced Inv-loop μ-loop
+shared-slice-read-mul-reduced c =
     let l = c .before .before .before .loop in omega (arith, filled-length _ _ _ _ (l .inv))
 
-mul-mod-requires : tie.Need-mul-mod-requires Inv-loop μ-loop
-mul-mod-requires c κs = search needs
+mul-reduced-requires : tie.Need-mul-reduced-requires Inv-loop μ-loop
+mul-reduced-requires c κs =
+    let s = c .before .before .before .before .before .before in (s .pre .1, s .pre .2)
 
 slice-write-list : tie.Need-slice-write-list Inv-loop μ-loop
 slice-write-list c = search needs
@@ -55,7 +56,7 @@ loop-again : tie.Need-loop-again Inv-loop μ-loop
 loop-again c =
     let l = c .before .before .before .before .loop in
     let s = c .before .before .before .before .before .before .before in
-    turn _ (s .args .factors .now) _ _ (l .i) _ (l .inv) (c .before .before .before .loop-test .taken) (c .mul-mod .ensures)
+    turn _ (s .args .factors .now) _ _ (l .i) _ (l .inv) (c .before .before .before .loop-test .taken) (c .mul-reduced .ensures)
 
 same-length : tie.Need-same-length Inv-loop μ-loop
 same-length c = filled-length _ _ _ _ (c .before .loop .inv)
@@ -72,9 +73,9 @@ multiply-each-spec =
     Inv-loop
     μ-loop
     loop-holds
-    slice-read-mul-mod
-    shared-slice-read-mul-mod
-    mul-mod-requires
+    slice-read-mul-reduced
+    shared-slice-read-mul-reduced
+    mul-reduced-requires
     slice-write-list
     add-i
     loop-less

@@ -9,13 +9,16 @@ use Rattle.field.proofs.put_odd_constants.Statement.{statement}
 use Rattle.field.proofs.put_odd_constants.Tie as tie
 
 abbrev Inv-loop : tie.InvT-loop
-Inv-loop p powers₀ squares constants₀ m₀ powers constants m = Descending p constants₀ constants powers m
+Inv-loop p powers₀ squares constants₀ reciprocal₀ m₀ powers constants m = Descending p constants₀ constants powers m
 
 abbrev μ-loop : tie.MeasureT-loop
-μ-loop p powers₀ squares constants₀ m₀ powers constants m = m
+μ-loop p powers₀ squares constants₀ reciprocal₀ m₀ powers constants m = m
+
+reciprocal-of-requires : tie.Need-reciprocal-of-requires Inv-loop μ-loop
+reciprocal-of-requires c κs = omega arith
 
 loop-holds : tie.Need-loop-holds Inv-loop μ-loop
-loop-holds c = let s = c .before .before .before in descend-begin _ _ _ (s .pre .1)
+loop-holds c = let s = c .before .before .before .before in descend-begin _ _ _ (s .pre .2)
 
 sub-m : tie.Need-sub-m Inv-loop μ-loop
 sub-m c = search needs
@@ -29,8 +32,12 @@ slice-write-constants c = let l = c .before .before .before .loop in omega (arit
 multiply-each-requires : tie.Need-multiply-each-requires Inv-loop μ-loop
 multiply-each-requires c κs =
     let l = c .before .before .before .before in
-    let s = l .before .before .before .before in
-    length-powers _ _ _ _ _ (l .loop .inv) ∙ sym (ap length (s .pre .2) ∙ length-first _ _)
+    let r = l .before in
+    let s = r .before .before .before .before in (
+      length-powers _ _ _ _ _ (l .loop .inv) ∙ sym (ap length (s .pre .3) ∙ length-first _ _),
+      s .pre .0,
+      r .reciprocal-of .ensures,
+    )
 
 loop-less : tie.Need-loop-less Inv-loop μ-loop
 loop-less c = search needs
@@ -39,14 +46,14 @@ loop-again : tie.Need-loop-again Inv-loop μ-loop
 loop-again c =
     let i = c .before .before .before .before .before .before in
     let l = i .before in
-    let s = l .before .before .before .before in
-    descend-one _ _ _ _ (l .loop .m) _ (s .args .squares .now) _ (s .pre .0) (s .pre .3) (s .pre .2) (i .loop-test .taken) (l .loop .inv)
+    let s = l .before .before .before .before .before in
+    descend-one _ _ _ _ (l .loop .m) _ (s .args .squares .now) _ (s .pre .1) (s .pre .4) (s .pre .3) (i .loop-test .taken) (l .loop .inv)
     (c .before .before .before .before .sum-mod .ensures) (c .before .before .multiply-each .ensures)
 
 same-length : tie.Need-same-length Inv-loop μ-loop
 same-length c =
-    let s = c .before .before .before .before .before in
-    length-powers _ _ _ _ _ (c .before .loop .inv) ∙ sym (ap length (s .pre .1) ∙ length-first _ _)
+    let s = c .before .before .before .before .before .before in
+    length-powers _ _ _ _ _ (c .before .loop .inv) ∙ sym (ap length (s .pre .2) ∙ length-first _ _)
 
 same-length-2 : tie.Need-same-length-2 Inv-loop μ-loop
 same-length-2 c = c .before .loop .inv .long
@@ -60,6 +67,7 @@ put-odd-constants-spec =
     (tie.spec
     Inv-loop
     μ-loop
+    reciprocal-of-requires
     loop-holds
     sub-m
     sum-mod-requires

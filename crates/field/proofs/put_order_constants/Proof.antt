@@ -55,6 +55,7 @@ put-odd-constants-requires c κs =
     let q = c .before .before .before .before in
     let w = q .before .before .before .before .before in
     let s = w .before .before in (
+      omega arith,
       s .pre .1,
       filled-part-is _ _ _ _ (omega arith) (q .before .before .before .put-ascending .ensures)
           ∙ counting-powers (s .args .p) _ (omega arith)

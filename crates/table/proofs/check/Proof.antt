@@ -28,15 +28,15 @@ enum-known-head c = search needs
 u16-at-requires : tie.Need-u16-at-requires
 u16-at-requires c κs = omega (arith, counted (bytes (c .before .before .before)) _ (passes (c .before)) .2)
 
-check-gates-requires : tie.Need-check-gates-requires
-check-gates-requires c κs = rw (c .u16-at .ensures .0) (counted (bytes (c .before .before .before .before)) _ (passes (c .before .before)))
+check-after-requires : tie.Need-check-after-requires
+check-after-requires c κs = rw (c .u16-at .ensures .0) (counted (bytes (c .before .before .before .before)) _ (passes (c .before .before)))
 
 enum-known-why : tie.Need-enum-known-why
 enum-known-why c = search needs
 
 returns : tie.Need-returns
 returns c =
-    rw (c .before .u16-at .ensures .0) at (c .check-gates .ensures) ∙ gates-checked (bytes (c .before .before .before .before .before)) _ (passes (c .before .before .before))
+    rw (c .before .u16-at .ensures .0) at (c .check-after .ensures) ∙ gates-checked (bytes (c .before .before .before .before .before)) _ (passes (c .before .before .before))
 
 returns-2 : tie.Need-returns-2
 returns-2 c =
@@ -49,7 +49,7 @@ check-spec =
     read-head-requires
     enum-known-head
     u16-at-requires
-    check-gates-requires
+    check-after-requires
     enum-known-why
     returns
     returns-2)
