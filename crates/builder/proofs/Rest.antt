@@ -8,7 +8,8 @@ use Rattle.answer.specs.Outcome.{refused, accepted}
 use Rattle.answer.proofs.Outcome.{refused≢accepted, answered, accepted-same}
 use Rattle.comparison.specs.Condition.{Condition}
 use Rattle.query.specs.Reading.{readCondition, readConditions}
-use Rattle.card.proofs.Conditions.{recordAt, lentAt, lent-is, next-record, one-less, first-refused, first-read}
+use Rattle.circuit.proofs.Records.{one-less}
+use Rattle.card.proofs.Conditions.{recordAt, lentAt, lent-is, next-record, first-refused, first-read}
 
 module _ (records : List ℕ) (count slot k : ℕ) (rest : List Condition) (l : k < count)
     (reads : readConditions slot (count - k) (recordAt records k) ≡ accepted rest) where

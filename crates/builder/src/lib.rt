@@ -25,6 +25,7 @@ ghost use Rattle.comparison.specs.OrderDigit.{powerCount};
 ghost use Rattle.comparison.specs.Relation.{isOrder};
 ghost use Rattle.comparison.specs.Writing.{conditionSegment};
 ghost use Rattle.order.specs.Constants.{Constants};
+ghost use Rattle.order.specs.Powers.{Deep};
 ghost use Rattle.writer.specs.Factors.{nodes};
 ghost use Rattle.writer.specs.Nodes.{nodeIs};
 ghost use Rattle.writer.specs.Pen.{fresh, Wrote, Room, Moved};
@@ -61,10 +62,10 @@ fn put_condition(
     relation: Relation,
     slots: Slots,
     constants: &[u8],
-    powers: &mut [u16],
+    powers: &[u16],
 ) -> Written
     requires { ⌜ Room (now table) pen (length (conditionSegment p (conditionIs relation slots) (pen .next) .gates)) × (3 ≤ p) × (p % 2 ≡ 1) × (p < 256) × InSlots (conditionIs relation slots) ⌝ }
-    requires { ⌜ ((isOrder (relationIs relation) ≡ true) → Constants p (now constants)) × (powerCount p < length (now powers)) ⌝ }
+    requires { ⌜ ((isOrder (relationIs relation) ≡ true) → Constants p (now constants) × Deep p (now powers) (powerCount p + 1)) × (powerCount p < length (now powers)) ⌝ }
     ensures wrote { λ r. ⌜ Wrote (now (table .entry)) pen (conditionSegment p (conditionIs relation slots) (pen .next) .gates) (now (table .exit)) (r .pen) ⌝ }
     ensures moves { λ r. ⌜ Moved pen (length (conditionSegment p (conditionIs relation slots) (pen .next) .gates)) (r .pen) ⌝ }
     ensures output { λ r. ⌜ nodeIs (r .node) ≡ conditionSegment p (conditionIs relation slots) (pen .next) .output ⌝ }
@@ -86,13 +87,13 @@ fn put_conditions(
     p: u16,
     table: &mut [u8],
     constants: &[u8],
-    powers: &mut [u16],
+    powers: &[u16],
     gates: &mut [u16],
     depths: &mut [u16],
 ) -> Pen
     requires { ⌜ Readable count (now records) × (3 ≤ p) × (p % 2 ≡ 1) × (p < 256) × (count ≤ length (now gates)) × (count ≤ length (now depths)) ⌝ }
     requires { ⌜ (8 * (length (segments p 0 (conditionsOf count (now records))) + 1) ≤ length (now table)) × (length (segments p 0 (conditionsOf count (now records))) ≤ mostGates) ⌝ }
-    requires { ⌜ ((anyOrder (conditionsOf count (now records)) ≡ true) → Constants p (now constants)) × (powerCount p < length (now powers)) ⌝ }
+    requires { ⌜ ((anyOrder (conditionsOf count (now records)) ≡ true) → Constants p (now constants) × Deep p (now powers) (powerCount p + 1)) × (powerCount p < length (now powers)) ⌝ }
     ensures wrote { λ r. ⌜ Wrote (now (table .entry)) fresh (segments p 0 (conditionsOf count (now (records .entry)))) (now (table .exit)) r ⌝ }
     ensures moves { λ r. ⌜ Moved fresh (length (segments p 0 (conditionsOf count (now (records .entry))))) r ⌝ }
     ensures outputs { λ r. ⌜ nodes (take count (now (gates .exit))) (take count (now (depths .exit))) ≡ outputsFrom p 0 (conditionsOf count (now (records .entry))) ⌝ }
@@ -145,13 +146,14 @@ fn has_order(records: &[u8], count: usize) -> bool
     false
 }
 
-// The order constants of a prime, which only records with an order relation ask for.
-fn put_constants(records: &[u8], count: usize, prime: u8, constants: &mut [u8])
-    requires { ⌜ Readable count (now records) × (3 ≤ prime) × (prime % 2 ≡ 1) × (prime / 2 + 1 ≤ length (now constants)) ⌝ }
-    ensures { λ _. ⌜ ((anyOrder (conditionsOf count (now (records .entry))) ≡ true) → Constants prime (now (constants .exit))) ⌝ }
+// The order constants of a prime and the depths of the powers, which only records with an order relation ask for.
+fn prepare_order(records: &[u8], count: usize, prime: u8, constants: &mut [u8], powers: &mut [u16])
+    requires { ⌜ Readable count (now records) × (3 ≤ prime) × (prime % 2 ≡ 1) × (prime / 2 + 1 ≤ length (now constants)) × (powerCount prime < length (now powers)) ⌝ }
+    ensures { λ _. ⌜ ((anyOrder (conditionsOf count (now (records .entry))) ≡ true) → Constants prime (now (constants .exit)) × Deep prime (now (powers .exit)) (powerCount prime + 1)) ⌝ }
 {
     if has_order(records, count) {
         field::put_order_constants(prime, constants);
+        order::put_power_depths(prime as u16, powers);
     }
 }
 
@@ -188,7 +190,7 @@ fn write_table(
 {
     let conditions = table::wide(head.count);
     let records = &card[card::HEAD..];
-    put_constants(records, conditions, head.prime, constants);
+    prepare_order(records, conditions, head.prime, constants, powers);
     writer::put_head(table, head.prime, head.weight, head.slots, count);
     let pen = put_conditions(
         records,

@@ -18,7 +18,8 @@ use Rattle.query.specs.Reading.{readCondition, readConditions}
 use Rattle.card.specs.Counting.{digitCounts, conditionCounts, mostInCondition, Within, totalsOf, noTotals, totalsRead, TotalsWithin}
 use Rattle.card.specs.declared.Counts.{Counts}
 use Rattle.card.specs.declared.Totals.{Totals}
-use Rattle.card.proofs.Conditions.{recordAt, lentAt, lent-is, next-record, one-less, first-refused, first-read}
+use Rattle.circuit.proofs.Records.{one-less}
+use Rattle.card.proofs.Conditions.{recordAt, lentAt, lent-is, next-record, first-refused, first-read}
 use Rattle.card.proofs.Counting.{condition-is}
 
 abbrev totals : ℕ → ℕ → ℕ → ℕ → Totals

@@ -5,14 +5,15 @@ use mathlib.Core.List.{List, _∷_}
 use Prim.Native.Nat.{ℕ, suc, _+_, _-_, _*_, _≤_, _<_, zero-le}
 use native.Mathlib.Omega.{arith}
 use native.Mathlib.Nat.{zero-add, add-zero, sub-zero}
-use lib.ListN.{length, take, drop, length-drop}
-use lib.Seq.{take-all, drop-drop}
+use lib.ListN.{length, drop}
+use lib.Seq.{drop-drop}
 use Rattle.answer.specs.Outcome.{Answer, refused, accepted, onAnswer, numbered}
 use Rattle.answer.proofs.Outcome.{passed, answered, accepted-same, onAnswer-same}
 use Rattle.field.specs.Sum.{total}
 use Rattle.field.proofs.Tests.{in-range}
 use Rattle.digits.specs.Number.{mostDigits, wrongCount}
 use Rattle.circuit.specs.Bytes.{byte, wrongMark}
+use Rattle.circuit.proofs.Records.{lentFrom, lent-all, lent-whole, one-less}
 use Rattle.comparison.specs.Condition.{Condition}
 use Rattle.comparison.specs.Relation.{relations}
 use Rattle.query.specs.Card.{conditionMark, slotsOf}
@@ -27,20 +28,16 @@ recordAt records k = drop (4 * k) records
 
 -- the same, as the code lends them
 abbrev pub lentAt : List ℕ → ℕ → List ℕ
-lentAt records k = take (length records - 4 * k) (recordAt records k)
+lentAt records k = lentFrom records (4 * k)
 
 pub lent-is : (records : List ℕ) (k : ℕ) → lentAt records k ≡ recordAt records k
-lent-is records k = take-all (length records - 4 * k) (recordAt records k) (rw length-drop (omega arith))
+lent-is records k = lent-all records (4 * k)
 
 pub lent-long : (records : List ℕ) (count k : ℕ) → 4 * count ≤ length records → k < count → 4 ≤ length (lentAt records k)
-lent-long records count k l h = rw (lent-is, length-drop) (omega arith)
+lent-long records count k l h = lent-whole records (4 * k) 4 (omega arith)
 
 pub next-record : (records : List ℕ) (k : ℕ) → recordAt records (k + 1) ≡ drop 4 (recordAt records k)
 next-record records k = let after : 4 * (k + 1) ≡ 4 * k + 4 = omega arith in rw (after, drop-drop)
-
--- one record less is left
-pub one-less : (count k : ℕ) → k < count → count - k ≡ suc (count - (k + 1))
-one-less count k h = omega arith
 
 -- ---- the first record
 

@@ -87,10 +87,6 @@ digits-share n digit few small =
     share : (x : ℕ) → x ≤ mostInDigit → n * x ≤ 7200
     share x h = omega (arith, mul-le-mul-left n h)
 
--- the weight's share of the cost
-pub weight-share : (s q : ℕ) → s ≤ 100 → s * q ≤ 100 * q
-weight-share s q h = omega (arith, mul-le-mul-left q h)
-
 -- the levels of a tree over at most 65536
 pub few-levels : (n : ℕ) → n ≤ 65536 → clog n ≤ 16
 few-levels n h = clog-iff n 16 .0 h

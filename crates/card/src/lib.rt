@@ -1,5 +1,4 @@
 // Query cards: reading them, and Forecast.
-use answer::Cost;
 use answer::Depth;
 use answer::Refusal;
 use answer::Report;
@@ -389,7 +388,7 @@ fn report_on(head: CardHead, totals: Totals) -> Report
         gates: (totals.gates + tree) as u16,
         products: products as u16,
         squares: totals.squares as u16,
-        cost: Cost(100 * products + (head.weight as u32) * totals.squares),
+        cost: table::cost_of(products, totals.squares, head.weight),
         depth: Depth(levels + field::ceil_log2(totals.breadth as u16)),
     }
 }

@@ -1,34 +1,383 @@
-// Prints what the operations answer at the borders of their rules, a line a case, for comparison with
-// the stored output.
+// Reads a case script from standard input and prints what the operations answer, a line a case, for
+// comparison with the stored output.
 use answer::Reported;
 use digits::Decoded;
 use digits::Encoded;
+use libc::STDIN_FILENO;
 use libc::STDOUT_FILENO;
 use table::Ran;
-ghost use mathlib.Core.Path.{_≡_};
-ghost use mathlib.Core.List.{[], _∷_, _++_};
 ghost use Prim.Native.Nat.{_≤_, _<_};
-ghost use Rattle.circuit.specs.Bench.{lessTable};
-ghost use Rattle.circuit.specs.Table.{tableBytes};
+ghost use lib.ListN.{length};
+ghost use Rattle.io.specs.Counts.{Counts};
 
-fn print(text: &[u8]) {
-    io::write_all(STDOUT_FILENO, text);
+// The longest script, the areas and the longest list, in bytes.
+const SCRIPT: usize = 400000;
+
+const TABLE: usize = 65600;
+
+const WORK: usize = 8200;
+
+const DIGITS: usize = 32;
+
+const LIST: usize = 1024;
+
+// Room for any line of a script with its answer.
+const PRINTED: usize = SCRIPT + 256;
+
+// More lent bytes than this are told by their checksum.
+const SHOWN: usize = 40;
+
+enum Command {
+    Forecast,
+    Build,
+    Check,
+    Trim,
+    Run,
+    Encode,
+    Decode,
+    Table,
+    Set,
+    Cut,
+    Malformed,
 }
 
-fn print_number(n: u64) {
-    io::print_decimal(STDOUT_FILENO, n);
+// A word as a number.
+enum Parsed {
+    Number(u64),
+    Malformed,
 }
 
-fn print_digit(digit: u8) {
-    print(b" ");
-    print_number(digit as u64);
+// So many of the bytes, or all where there are fewer.
+fn cut(count: usize, bytes: &[u8]) -> usize
+    ensures { λ r. ⌜ r ≤ count ⌝ }
+    ensures { λ r. ⌜ Counts r (now (bytes .entry)) ⌝ }
+{
+    if count < bytes.len() {
+        count
+    } else {
+        bytes.len()
+    }
 }
 
-fn print_digits(digits: &[u8]) {
+fn is_equal(left: &[u8], right: &[u8]) -> bool {
+    if left.len() != right.len() {
+        return false;
+    }
     let mut i = 0;
-    while i < digits.len() {
-        print_digit(digits[i]);
+    while i < left.len() {
+        if left[i] != right[i] {
+            return false;
+        }
         i += 1;
+    }
+    true
+}
+
+// The first place from a start on that has the symbol, or the end.
+fn find(text: &[u8], start: usize, symbol: u8) -> usize
+    requires { ⌜ start ≤ length (now text) ⌝ }
+    ensures { λ r. ⌜ (start ≤ r) × (r ≤ length (now (text .entry))) ⌝ }
+{
+    let mut i = start;
+    while i < text.len() {
+        if text[i] == symbol {
+            return i;
+        }
+        i += 1;
+    }
+    i
+}
+
+// Where the word after a word starts, or the end.
+fn after_word(line: &[u8], start: usize) -> usize
+    requires { ⌜ start ≤ length (now line) ⌝ }
+    ensures { λ r. ⌜ r ≤ length (now (line .entry)) ⌝ }
+{
+    let end = find(line, start, b' ');
+    if end < line.len() { end + 1 } else { end }
+}
+
+fn word_start(line: &[u8], number: usize) -> usize
+    ensures { λ r. ⌜ r ≤ length (now (line .entry)) ⌝ }
+{
+    let mut start = 0;
+    let mut i = 0;
+    while i < number {
+        start = after_word(line, start);
+        i += 1;
+    }
+    start
+}
+
+// A word by its number, of which the command's is 0; empty where the line has fewer.
+fn word(line: &[u8], number: usize) -> &[u8] {
+    let start = word_start(line, number);
+    let end = find(line, start, b' ');
+    &line[start..end]
+}
+
+fn count_spaces(line: &[u8]) -> usize {
+    let mut count = 0;
+    let mut i = 0;
+    while i < line.len() {
+        if line[i] == b' ' {
+            count += 1;
+        }
+        i += 1;
+    }
+    count
+}
+
+// A number with one more digit.
+fn append_digit(number: u64, symbol: u8) -> Parsed {
+    if symbol < b'0' {
+        return Parsed::Malformed;
+    }
+    if b'9' < symbol {
+        return Parsed::Malformed;
+    }
+    let digit = (symbol - b'0') as u64;
+    if (u64::MAX - digit) / 10 < number {
+        return Parsed::Malformed;
+    }
+    Parsed::Number(10 * number + digit)
+}
+
+fn read_number(word: &[u8]) -> Parsed {
+    if word.len() == 0 {
+        return Parsed::Malformed;
+    }
+    let mut number = 0;
+    let mut i = 0;
+    while i < word.len() {
+        match append_digit(number, word[i]) {
+            Parsed::Number(longer) => number = longer,
+            Parsed::Malformed => return Parsed::Malformed,
+        }
+        i += 1;
+    }
+    Parsed::Number(number)
+}
+
+fn number_of(word: &[u8]) -> u64 {
+    match read_number(word) {
+        Parsed::Number(number) => number,
+        Parsed::Malformed => 0,
+    }
+}
+
+fn byte_of(word: &[u8]) -> u8 {
+    let number = number_of(word);
+    if number < 256 { number as u8 } else { 255 }
+}
+
+// So many of the bytes as a word says, or all where there are fewer.
+fn room_of(word: &[u8], bytes: &[u8]) -> usize
+    ensures { λ r. ⌜ Counts r (now (bytes .entry)) ⌝ }
+{
+    cut(number_of(word) as usize, bytes)
+}
+
+fn is_hex(symbol: u8) -> bool {
+    match symbol {
+        b'0'..=b'9' => true,
+        b'A'..=b'F' => true,
+        _ => false,
+    }
+}
+
+fn hex_value(symbol: u8) -> u8
+    ensures { λ r. ⌜ r < 16 ⌝ }
+{
+    match symbol {
+        b'0'..=b'9' => symbol - b'0',
+        b'A'..=b'F' => symbol - b'A' + 10,
+        _ => 0,
+    }
+}
+
+fn hex_pair(high: u8, low: u8) -> u8 {
+    16 * hex_value(high) + hex_value(low)
+}
+
+fn hex_symbol(value: u8) -> u8
+    requires { ⌜ value < 16 ⌝ }
+{
+    if value < 10 {
+        b'0' + value
+    } else {
+        b'A' + (value - 10)
+    }
+}
+
+fn has_only_hex(word: &[u8]) -> bool {
+    let mut i = 0;
+    while i < word.len() {
+        if !is_hex(word[i]) {
+            return false;
+        }
+        i += 1;
+    }
+    true
+}
+
+fn is_list(word: &[u8]) -> bool {
+    if is_equal(word, b"-") {
+        return true;
+    }
+    if word.len() == 0 {
+        return false;
+    }
+    if 2 * LIST < word.len() {
+        return false;
+    }
+    if word.len() % 2 == 1 {
+        return false;
+    }
+    has_only_hex(word)
+}
+
+// Puts a list's bytes at the start of out, as far as they have room, and answers how many it put.
+fn put_list(word: &[u8], out: &mut [u8]) -> usize
+    ensures { λ r. ⌜ Counts r (now (out .exit)) ⌝ }
+{
+    let count = cut(word.len() / 2, out);
+    let mut i = 0;
+    while i < count {
+        out[i] = hex_pair(word[2 * i], word[2 * i + 1]);
+        i += 1;
+    }
+    count
+}
+
+// The largest number of a kind.
+fn largest(kind: u8) -> u64 {
+    match kind {
+        b'b' => 255,
+        b'c' => TABLE as u64,
+        b'p' => TABLE as u64 - 1,
+        _ => u64::MAX,
+    }
+}
+
+fn is_of_kind(word: &[u8], kind: u8) -> bool {
+    if kind == b'l' {
+        return is_list(word);
+    }
+    match read_number(word) {
+        Parsed::Number(number) => number <= largest(kind),
+        Parsed::Malformed => false,
+    }
+}
+
+fn are_of_kinds(line: &[u8], kinds: &[u8]) -> bool {
+    let mut i = 0;
+    while i < kinds.len() {
+        if !is_of_kind(word(line, i + 1), kinds[i]) {
+            return false;
+        }
+        i += 1;
+    }
+    true
+}
+
+// Whether a line is a command's name with arguments of the kinds: l a list, b a byte, c a count of
+// bytes, p a place in the table area, n any number.
+fn has_form(line: &[u8], name: &[u8], kinds: &[u8]) -> bool {
+    if !is_equal(word(line, 0), name) {
+        return false;
+    }
+    if count_spaces(line) != kinds.len() {
+        return false;
+    }
+    are_of_kinds(line, kinds)
+}
+
+fn command_of(line: &[u8]) -> Command {
+    if has_form(line, b"forecast", b"l") {
+        return Command::Forecast;
+    }
+    if has_form(line, b"build", b"cl") {
+        return Command::Build;
+    }
+    if has_form(line, b"check", b"") {
+        return Command::Check;
+    }
+    if has_form(line, b"trim", b"") {
+        return Command::Trim;
+    }
+    if has_form(line, b"run", b"cll") {
+        return Command::Run;
+    }
+    if has_form(line, b"encode", b"bcnc") {
+        return Command::Encode;
+    }
+    if has_form(line, b"decode", b"bl") {
+        return Command::Decode;
+    }
+    if has_form(line, b"table", b"l") {
+        return Command::Table;
+    }
+    if has_form(line, b"set", b"pb") {
+        return Command::Set;
+    }
+    if has_form(line, b"cut", b"c") {
+        return Command::Cut;
+    }
+    Command::Malformed
+}
+
+// Like each function below that has a place, this one puts text into out from the place on, as far
+// as it has room, and answers the place after it.
+fn put_byte(byte: u8, place: usize, out: &mut [u8]) -> usize {
+    if place < out.len() {
+        out[place] = byte;
+        return place + 1;
+    }
+    place
+}
+
+fn put(text: &[u8], place: usize, out: &mut [u8]) -> usize {
+    let mut end = place;
+    let mut i = 0;
+    while i < text.len() {
+        end = put_byte(text[i], end, out);
+        i += 1;
+    }
+    end
+}
+
+fn put_number(number: u64, place: usize, out: &mut [u8]) -> usize {
+    let mut text = [0; 20];
+    let count = io::decimal(number, &mut text);
+    put(&text[..count], place, out)
+}
+
+fn put_named(name: &[u8], number: u64, place: usize, out: &mut [u8]) -> usize {
+    let end = put(name, place, out);
+    put_number(number, end, out)
+}
+
+fn put_hex_pair(byte: u8, place: usize, out: &mut [u8]) -> usize {
+    let end = put_byte(hex_symbol(byte / 16), place, out);
+    put_byte(hex_symbol(byte % 16), end, out)
+}
+
+fn put_hex(bytes: &[u8], place: usize, out: &mut [u8]) -> usize {
+    let mut end = place;
+    let mut i = 0;
+    while i < bytes.len() {
+        end = put_hex_pair(bytes[i], end, out);
+        i += 1;
+    }
+    end
+}
+
+fn put_bytes(bytes: &[u8], place: usize, out: &mut [u8]) -> usize {
+    if bytes.len() == 0 {
+        put_byte(b'-', place, out)
+    } else {
+        put_hex(bytes, place, out)
     }
 }
 
@@ -43,594 +392,220 @@ fn checksum(bytes: &[u8]) -> usize {
     sum
 }
 
-// Every lent byte, or the checksum of many.
-fn print_lent(bytes: &[u8]) {
-    print(b", lent");
-    if bytes.len() <= 80 {
-        print_digits(bytes);
+fn put_lent(bytes: &[u8], place: usize, out: &mut [u8]) -> usize {
+    let end = put(b", lent ", place, out);
+    if bytes.len() <= SHOWN {
+        put_bytes(bytes, end, out)
     } else {
-        print(b" checksum ");
-        print_number(checksum(bytes) as u64);
+        put_named(b"checksum ", checksum(bytes) as u64, end, out)
     }
-    print(b"\n");
 }
 
-fn print_refusal(why: answer::Refusal) {
-    print(b" refused ");
-    print_number(answer::refusal_number(why) as u64);
+fn put_refusal(why: answer::Refusal, place: usize, out: &mut [u8]) -> usize {
+    put_named(b"refused ", answer::refusal_number(why) as u64, place, out)
 }
 
-// Prints the answer, and every lent byte afterwards.
-fn show_encode(p: u8, n: usize, number: u64, out: &mut [u8]) {
-    print(b"encode p ");
-    print_number(p as u64);
-    print(b" n ");
-    print_number(n as u64);
-    print(b" number ");
-    print_number(number);
-    print(b":");
-    match digits::encode(p, n, number, out) {
-        Encoded::Done => print(b" done"),
-        Encoded::Refused(why) => print_refusal(why),
-    }
-    print_lent(out);
+fn put_gates(told: answer::Report, place: usize, out: &mut [u8]) -> usize {
+    let gates = put_named(b"gates ", told.gates as u64, place, out);
+    let products = put_named(b" products ", told.products as u64, gates, out);
+    put_named(b" squares ", told.squares as u64, products, out)
 }
 
-fn show_decode(p: u8, digits: &[u8]) {
-    print(b"decode p ");
-    print_number(p as u64);
-    print(b" digits");
-    print_digits(digits);
-    print(b":");
-    match digits::decode(p, digits) {
-        Decoded::Number(number) => {
-            print(b" number ");
-            print_number(number);
-        }
-        Decoded::Refused(why) => print_refusal(why),
-    }
-    print(b"\n");
+fn put_counts(told: answer::Report, place: usize, out: &mut [u8]) -> usize {
+    let squares = put_gates(told, place, out);
+    let cost = put_named(b" cost ", told.cost.0 as u64, squares, out);
+    put_named(b" depth ", told.depth.0 as u64, cost, out)
 }
 
-fn encode_cases() {
-    show_encode(5, 2, 8, &mut [7; 2]);
-    show_encode(5, 2, 9, &mut [7; 2]);
-    show_encode(5, 2, 5, &mut [7; 4]);
-    show_encode(3, 16, 65535, &mut [7; 16]);
-    show_encode(3, 16, 65536, &mut [7; 16]);
-    show_encode(251, 16, 18446744073709551615, &mut [7; 18]);
-    show_encode(251, 9, 18446744073709551615, &mut [7; 16]);
-    show_encode(251, 10, 18446744073709551615, &mut [7; 16]);
-    show_encode(2, 0, 9, &mut []);
-    show_encode(249, 2, 0, &mut [7; 2]);
-    show_encode(5, 0, 9, &mut []);
-    show_encode(5, 17, 9, &mut []);
-    show_encode(5, 2, 9, &mut [7; 1]);
-}
-
-fn decode_cases() {
-    show_decode(5, &[2, 2]);
-    show_decode(5, &[1, 2]);
-    show_decode(5, &[0, 3]);
-    show_decode(251, &[125; 16]);
-    show_decode(251, &[125; 9]);
-    show_decode(251, &[15, 80, 54, 115, 85, 64, 116, 46, 38, 2]);
-    show_decode(251, &[16, 80, 54, 115, 85, 64, 116, 46, 38, 2]);
-    show_decode(
-        251,
-        &[
-            125,
-            125,
-            125,
-            125,
-            125,
-            125,
-            125,
-            125,
-            125,
-            125,
-            125,
-            125,
-            125,
-            125,
-            125,
-            126,
-        ],
-    );
-    show_decode(3, &[1; 16]);
-    show_decode(3, &[1; 17]);
-    show_decode(9, &[]);
-    show_decode(3, &[]);
-}
-
-// The table of document 01's first bench card, and two bytes after it.
-const BENCH: [u8; 66] = [
-    0x47,
-    0x48,
-    3,
-    75,
-    1,
-    0,
-    7,
-    0,
-    0x47,
-    0x54,
-    1,
-    0,
-    0,
-    0,
-    0,
-    0,
-    0x47,
-    0x54,
-    2,
-    0,
-    0,
-    0,
-    0,
-    0,
-    0x47,
-    0x54,
-    4,
-    0,
-    0,
-    0,
-    1,
-    0,
-    0x47,
-    0x54,
-    7,
-    0,
-    2,
-    0,
-    2,
-    0,
-    0x47,
-    0x54,
-    5,
-    0,
-    2,
-    0,
-    1,
-    0,
-    0x47,
-    0x54,
-    5,
-    0,
-    3,
-    0,
-    2,
-    0,
-    0x47,
-    0x54,
-    3,
-    0,
-    4,
-    0,
-    5,
-    0,
-    9,
-    9,
-];
-
-// The array, whose contract is that its bytes are the listing's.
-fn bench_table() -> [u8; 66]
-    ensures { λ r. ⌜ r ≡ tableBytes lessTable ++ (9 ∷ 9 ∷ []) ⌝ }
-{
-    BENCH
-}
-
-fn print_report(answer: Reported) {
+fn put_report(answer: Reported, place: usize, out: &mut [u8]) -> usize {
     match answer {
-        Reported::Success(told) => {
-            print(b" gates ");
-            print_number(told.gates as u64);
-            print(b" products ");
-            print_number(told.products as u64);
-            print(b" squares ");
-            print_number(told.squares as u64);
-            print(b" cost ");
-            print_number(told.cost.0 as u64);
-            print(b" depth ");
-            print_number(told.depth.0 as u64);
+        Reported::Success(told) => put_counts(told, place, out),
+        Reported::Refused(why) => put_refusal(why, place, out),
+    }
+}
+
+fn forecast(line: &[u8], place: usize, out: &mut [u8]) -> usize {
+    let mut card = [0; LIST];
+    let count = put_list(word(line, 1), &mut card);
+    put_report(card::forecast(&card[..count]), place, out)
+}
+
+fn build(line: &[u8], table: &mut [u8], place: usize, out: &mut [u8]) -> usize {
+    let mut card = [0; LIST];
+    let count = put_list(word(line, 2), &mut card);
+    let end = put_report(builder::build(&card[..count], table), place, out);
+    put_lent(table, end, out)
+}
+
+fn trim(table: &[u8], place: usize, out: &mut [u8]) -> usize {
+    put_named(b"length ", table::trim(table).len() as u64, place, out)
+}
+
+fn put_output(answer: Ran, place: usize, out: &mut [u8]) -> usize {
+    match answer {
+        Ran::Output(value) => put_named(b"output ", value as u64, place, out),
+        Ran::Refused(why) => put_refusal(why, place, out),
+    }
+}
+
+fn run_lent(line: &[u8], table: &[u8], work: &mut [u8], place: usize, out: &mut [u8]) -> usize {
+    let mut left = [0; LIST];
+    let mut right = [0; LIST];
+    let left_count = put_list(word(line, 2), &mut left);
+    let right_count = put_list(word(line, 3), &mut right);
+    let ran = table::run(table, &left[..left_count], &right[..right_count], work);
+    let end = put_output(ran, place, out);
+    put_lent(work, end, out)
+}
+
+fn run(line: &[u8], table: &[u8], work: &mut [u8], place: usize, out: &mut [u8]) -> usize {
+    let room = room_of(word(line, 1), work);
+    run_lent(line, table, &mut work[..room], place, out)
+}
+
+fn put_done(answer: Encoded, place: usize, out: &mut [u8]) -> usize {
+    match answer {
+        Encoded::Done => put(b"done", place, out),
+        Encoded::Refused(why) => put_refusal(why, place, out),
+    }
+}
+
+fn encode_lent(line: &[u8], digits: &mut [u8], place: usize, out: &mut [u8]) -> usize {
+    let prime = byte_of(word(line, 1));
+    let count = number_of(word(line, 2)) as usize;
+    let number = number_of(word(line, 3));
+    let end = put_done(digits::encode(prime, count, number, digits), place, out);
+    put_lent(digits, end, out)
+}
+
+fn encode(line: &[u8], digits: &mut [u8], place: usize, out: &mut [u8]) -> usize {
+    let room = room_of(word(line, 4), digits);
+    encode_lent(line, &mut digits[..room], place, out)
+}
+
+fn put_decoded(answer: Decoded, place: usize, out: &mut [u8]) -> usize {
+    match answer {
+        Decoded::Number(number) => put_named(b"number ", number, place, out),
+        Decoded::Refused(why) => put_refusal(why, place, out),
+    }
+}
+
+fn decode(line: &[u8], place: usize, out: &mut [u8]) -> usize {
+    let mut digits = [0; LIST];
+    let count = put_list(word(line, 2), &mut digits);
+    let prime = byte_of(word(line, 1));
+    put_decoded(digits::decode(prime, &digits[..count]), place, out)
+}
+
+fn put_answer(
+    command: Command,
+    line: &[u8],
+    table: &mut [u8],
+    work: &mut [u8],
+    digits: &mut [u8],
+    place: usize,
+    out: &mut [u8],
+) -> usize {
+    match command {
+        Command::Forecast => forecast(line, place, out),
+        Command::Build => build(line, table, place, out),
+        Command::Check => put_report(table::check(table), place, out),
+        Command::Trim => trim(table, place, out),
+        Command::Run => run(line, table, work, place, out),
+        Command::Encode => encode(line, digits, place, out),
+        Command::Decode => decode(line, place, out),
+        _ => put(b"malformed", place, out),
+    }
+}
+
+fn print_first(count: usize, out: &[u8]) {
+    let end = cut(count, out);
+    io::write_all(STDOUT_FILENO, &out[..end]);
+}
+
+// Prints the line as it stands, and the answer.
+fn print_answer(
+    command: Command,
+    line: &[u8],
+    table: &mut [u8],
+    work: &mut [u8],
+    digits: &mut [u8],
+    out: &mut [u8],
+) {
+    let copied = put(line, 0, out);
+    let place = put(b": ", copied, out);
+    let end = put_answer(command, line, table, work, digits, place, out);
+    let count = put_byte(b'\n', end, out);
+    print_first(count, out);
+}
+
+fn set_byte(line: &[u8], table: &mut [u8]) {
+    let place = number_of(word(line, 1)) as usize;
+    if place < table.len() {
+        table[place] = byte_of(word(line, 2));
+    }
+}
+
+// The current length after a command.
+fn next_length(command: Command, line: &[u8], current: usize, table: &[u8]) -> usize
+    ensures { λ r. ⌜ Counts r (now (table .entry)) ⌝ }
+{
+    match command {
+        Command::Build => room_of(word(line, 1), table),
+        Command::Cut => room_of(word(line, 1), table),
+        Command::Table => cut(word(line, 1).len() / 2, table),
+        _ => cut(current, table),
+    }
+}
+
+// Carries a line out and answers the current length after it.
+fn carry_out(
+    line: &[u8],
+    table: &mut [u8],
+    current: usize,
+    work: &mut [u8],
+    digits: &mut [u8],
+    out: &mut [u8],
+) -> usize {
+    let command = command_of(line);
+    let next = next_length(command, line, current, table);
+    match command {
+        Command::Table => {
+            put_list(word(line, 1), table);
         }
-        Reported::Refused(why) => print_refusal(why),
+        Command::Set => set_byte(line, table),
+        Command::Cut => {}
+        _ => print_answer(command, line, &mut table[..next], work, digits, out),
+    }
+    next
+}
+
+fn carry_out_lines(
+    script: &[u8],
+    table: &mut [u8],
+    work: &mut [u8],
+    digits: &mut [u8],
+    out: &mut [u8],
+) {
+    let mut current = 0;
+    let mut start = 0;
+    while start < script.len() {
+        let end = find(script, start, b'\n');
+        current = carry_out(&script[start..end], table, current, work, digits, out);
+        start = end + 1;
     }
 }
 
-// What Check and Trim answer on the bytes.
-fn show_table(bytes: &[u8]) {
-    print_report(table::check(bytes));
-    print(b", trimmed to ");
-    print_number(table::trim(bytes).len() as u64);
-    print(b"\n");
-}
-
-// The bench table with one byte set to another.
-fn show_damaged(place: usize, byte: u8)
-    requires { ⌜ place < 66 ⌝ }
-{
-    let mut bytes = bench_table();
-    bytes[place] = byte;
-    print(b"check with byte ");
-    print_number(place as u64);
-    print(b" set to ");
-    print_number(byte as u64);
-    print(b":");
-    show_table(&bytes);
-}
-
-fn damage_cases(byte: u8) {
-    let mut place = 0;
-    while place < 66 {
-        show_damaged(place, byte);
-        place += 1;
-    }
-}
-
-// The bench table cut short.
-fn show_shortened(length: usize)
-    requires { ⌜ length ≤ 66 ⌝ }
-{
-    let bytes = bench_table();
-    print(b"check ");
-    print_number(length as u64);
-    print(b" bytes:");
-    show_table(&bytes[..length]);
-}
-
-fn length_cases() {
-    let mut length = 0;
-    while length <= 66 {
-        show_shortened(length);
-        length += 1;
-    }
-}
-
-// Run on a table: the answer, and the lent bytes afterwards.
-fn show_run_of(table: &[u8], left: &[u8], right: &[u8], work: &mut [u8]) {
-    print(b"run left");
-    print_digits(left);
-    print(b" right");
-    print_digits(right);
-    print(b":");
-    match table::run(table, left, right, work) {
-        Ran::Output(value) => {
-            print(b" output ");
-            print_number(value as u64);
-        }
-        Ran::Refused(why) => print_refusal(why),
-    }
-    print_lent(work);
-}
-
-fn show_run(left: &[u8], right: &[u8], work: &mut [u8]) {
-    show_run_of(&bench_table(), left, right, work);
-}
-
-// The digits below B = 2.
-fn digit_runs() {
-    show_run(&[0], &[0], &mut [9; 8]);
-    show_run(&[0], &[1], &mut [9; 8]);
-    show_run(&[1], &[0], &mut [9; 7]);
-    show_run(&[1], &[1], &mut [9; 7]);
-}
-
-// Values up to p, of which the last is refused.
-fn value_runs() {
-    show_run(&[2], &[0], &mut [9; 7]);
-    show_run(&[0], &[2], &mut [9; 7]);
-    show_run(&[3], &[0], &mut [9; 7]);
-    show_run(&[0], &[3], &mut [9; 7]);
-}
-
-// Everything wrong, mended one rule at a time.
-fn refused_runs() {
-    show_run(&[3, 3], &[0], &mut [9; 6]);
-    show_run(&[3], &[], &mut [9; 6]);
-    show_run(&[3], &[0], &mut [9; 6]);
-    show_run(&[0], &[0], &mut [9; 6]);
-}
-
-// A card of one condition.
-fn card_of_one(prime: u8, weight: u8, relation: u8, n: u8) -> [u8; 10] {
-    [0xC5, 0x48, prime, weight, 1, 0, 0xC5, 0x51, relation, n]
-}
-
-// A card of two condition records.
-fn card_of_two(prime: u8, weight: u8, first: [u8; 4], second: [u8; 4]) -> [u8; 14] {
-    [
-        0xC5,
-        0x48,
-        prime,
-        weight,
-        2,
-        0,
-        first[0],
-        first[1],
-        first[2],
-        first[3],
-        second[0],
-        second[1],
-        second[2],
-        second[3],
-    ]
-}
-
-// A card of eight conditions of sixteen digits, with every relation: p = 11, s = 90.
-const EIGHT: [u8; 38] = [
-    0xC5,
-    0x48,
-    11,
-    90,
-    8,
-    0,
-    0xC5,
-    0x51,
-    6,
-    3,
-    0xC5,
-    0x51,
-    1,
-    1,
-    0xC5,
-    0x51,
-    5,
-    2,
-    0xC5,
-    0x51,
-    4,
-    1,
-    0xC5,
-    0x51,
-    2,
-    4,
-    0xC5,
-    0x51,
-    3,
-    2,
-    0xC5,
-    0x51,
-    5,
-    1,
-    0xC5,
-    0x51,
-    1,
-    2,
-];
-
-fn show_forecast(card: &[u8]) {
-    print(b"forecast card");
-    print_digits(card);
-    print(b":");
-    print_report(card::forecast(card));
-    print(b"\n");
-}
-
-// The answer, and the lent bytes afterwards.
-fn show_build(card: &[u8], table: &mut [u8]) {
-    print(b"build card");
-    print_digits(card);
-    print(b" into ");
-    print_number(table.len() as u64);
-    print(b":");
-    print_report(builder::build(card, table));
-    print_lent(table);
-}
-
-fn show_card(card: &[u8], table: &mut [u8]) {
-    show_forecast(card);
-    show_build(card, table);
-}
-
-// The first bench card: 64 bytes are enough.
-fn bench_builds() {
-    let card = card_of_one(3, 75, 1, 1);
-    show_card(&card, &mut [7; 64]);
-    show_build(&card, &mut [7; 63]);
-    show_build(&card, &mut []);
-    show_build(&card, &mut [7; 70]);
-}
-
-// Each relation in turn, into the bytes that the last one left.
-fn relation_builds(prime: u8, n: u8, table: &mut [u8]) {
-    let mut relation = 1;
-    while relation <= 6 {
-        show_card(&card_of_one(prime, 65, relation, n), table);
-        relation += 1;
-    }
-}
-
-fn digit_count_builds(prime: u8) {
-    relation_builds(prime, 1, &mut [7; 220]);
-    relation_builds(prime, 2, &mut [7; 440]);
-    relation_builds(prime, 3, &mut [7; 680]);
-    relation_builds(prime, 5, &mut [7; 1130]);
-}
-
-// Every rule broken, mended one at a time; no table is lent.
-fn refused_heads() {
-    show_card(&[], &mut []);
-    show_card(&[0, 0, 9, 49, 9], &mut []);
-    show_card(&[0, 0, 9, 49, 9, 1], &mut []);
-    show_card(&[0xC5, 0x48, 9, 49, 9, 1], &mut []);
-    show_card(&[0xC5, 0x48, 3, 49, 9, 1], &mut []);
-    show_card(&[0xC5, 0x48, 3, 75, 9, 1], &mut []);
-    show_card(&[0xC5, 0x48, 3, 75, 9, 0], &mut []);
-    show_card(&[0xC5, 0x48, 3, 75, 2, 0], &mut []);
-}
-
-fn show_records(first: [u8; 4], second: [u8; 4]) {
-    show_card(&card_of_two(3, 75, first, second), &mut []);
-}
-
-fn refused_records() {
-    show_records([0, 0, 7, 17], [0, 0, 7, 17]);
-    show_records([0xC5, 0x51, 7, 17], [0, 0, 7, 17]);
-    show_records([0xC5, 0x51, 1, 17], [0, 0, 7, 17]);
-    show_records([0xC5, 0x51, 1, 16], [0, 0, 7, 17]);
-    show_records([0xC5, 0x51, 1, 16], [0xC5, 0x51, 7, 17]);
-    show_records([0xC5, 0x51, 1, 16], [0xC5, 0x51, 5, 17]);
-    show_records([0xC5, 0x51, 1, 16], [0xC5, 0x51, 5, 1]);
-    show_records([0xC5, 0x51, 1, 8], [0xC5, 0x51, 1, 9]);
-    show_records([0xC5, 0x51, 1, 8], [0xC5, 0x51, 1, 8]);
-    show_records([0xC5, 0x51, 1, 1], [0xC5, 0x51, 5, 1]);
-}
-
-fn show_border(prime: u8, weight: u8, relation: u8, n: u8) {
-    show_card(&card_of_one(prime, weight, relation, n), &mut [7; 64]);
-}
-
-// One number at a border of the card, or beyond it.
-fn border_cards() {
-    show_border(2, 75, 1, 1);
-    show_border(249, 75, 1, 1);
-    show_border(249, 49, 1, 1);
-    show_border(3, 49, 1, 1);
-    show_border(3, 50, 1, 1);
-    show_border(3, 100, 1, 1);
-    show_border(3, 101, 1, 1);
-    show_border(3, 75, 0, 1);
-    show_border(3, 75, 7, 1);
-    show_border(3, 75, 1, 0);
-    show_border(3, 75, 1, 17);
-}
-
-// The card of two conditions with one byte set to another.
-fn show_damaged_card(place: usize, byte: u8)
-    requires { ⌜ place < 14 ⌝ }
-{
-    let mut card = card_of_two(3, 75, [0xC5, 0x51, 1, 1], [0xC5, 0x51, 5, 1]);
-    card[place] = byte;
-    show_card(&card, &mut [7; 112]);
-}
-
-fn card_damages(byte: u8) {
-    let mut place = 0;
-    while place < 14 {
-        show_damaged_card(place, byte);
-        place += 1;
-    }
-}
-
-// Bytes missing or left over, by one or by a whole record.
-fn card_lengths() {
-    show_card(&[0xC5, 0x48, 3, 75, 1], &mut [7; 64]);
-    show_card(&[0xC5, 0x48, 3, 75, 1, 0], &mut [7; 64]);
-    show_card(&[0xC5, 0x48, 3, 75, 1, 0, 0xC5, 0x51, 1], &mut [7; 64]);
-    show_card(
-        &[0xC5, 0x48, 3, 75, 1, 0, 0xC5, 0x51, 1, 1, 0],
-        &mut [7; 64],
-    );
-    let mut card = EIGHT;
-    card[4] = 7;
-    show_card(&card, &mut [7; 81]);
-    card[4] = 9;
-    show_card(&card, &mut [7; 81]);
-}
-
-// Check, Trim and Run on the bytes that Build leaves.
-fn show_built(card: &[u8], left: &[u8], right: &[u8], table: &mut [u8], work: &mut [u8]) {
-    show_card(card, table);
-    print(b"check of it:");
-    show_table(table);
-    show_run_of(table, left, right, work);
-}
-
-// The cards of document 01's bench whose counts it tells.
-fn starred_builds() {
-    show_card(&card_of_one(7, 50, 5, 1), &mut [7; 64]);
-    let less = card_of_one(5, 100, 1, 2);
-    show_built(&less, &[2, 1], &[1, 2], &mut [7; 208], &mut [9; 25]);
-    show_card(&card_of_one(5, 100, 2, 2), &mut [7; 220]);
-    let both = card_of_two(5, 80, [0xC5, 0x51, 1, 1], [0xC5, 0x51, 5, 3]);
-    show_card(&both, &mut [7; 264]);
-    show_build(&both, &mut [7; 263]);
-}
-
-// Eight conditions that hold, then all but the last.
-fn eight_builds() {
-    let left = [1, 2, 3, 0, 4, 5, 3, 5, 5, 0, 2, 0, 3, 5, 5, 0];
-    let right = [1, 2, 4, 5, 4, 5, 3, 0, 0, 1, 2, 5, 2, 5, 0, 1];
-    let other = [1, 2, 4, 5, 4, 5, 3, 0, 0, 1, 2, 5, 2, 5, 5, 0];
-    let mut table = [7; 2310];
-    show_built(&EIGHT, &left, &right, &mut table, &mut [9; 300]);
-    show_run_of(&table, &left, &other, &mut [9; 287]);
-}
-
-// The largest prime.
-fn largest_builds() {
-    let equal = card_of_one(251, 50, 5, 2);
-    show_built(
-        &equal,
-        &[125, 250],
-        &[125, 250],
-        &mut [7; 280],
-        &mut [9; 40],
-    );
-    show_build(&equal, &mut [7; 271]);
-    show_card(&card_of_one(251, 100, 1, 16), &mut [7; 57200]);
-}
-
-// The output for two numbers of two digits at p = 5.
-fn print_output(table: &[u8], left: u8, right: u8) {
-    let record = [left % 3, left / 3];
-    let query = [right % 3, right / 3];
-    match table::run(table, &record, &query, &mut [9; 26]) {
-        Ran::Output(value) => print_digit(value),
-        Ran::Refused(why) => print_refusal(why),
-    }
-}
-
-// The numbers 2 to 5, each against each.
-fn print_outputs(table: &[u8]) {
-    let mut k = 0;
-    while k < 16 {
-        print_output(table, 2 + k / 4, 2 + k % 4);
-        k += 1;
-    }
-}
-
-fn relation_outputs(relation: u8) {
-    let mut table = [7; 216];
-    show_build(&card_of_one(5, 80, relation, 2), &mut table);
-    print(b"outputs");
-    print_outputs(&table);
-    print(b"\n");
-}
-
-fn all_outputs() {
-    relation_outputs(1);
-    relation_outputs(2);
-    relation_outputs(3);
-    relation_outputs(4);
-    relation_outputs(5);
-    relation_outputs(6);
+fn run_script(script: &[u8]) {
+    let mut table = [7; TABLE];
+    let mut work = [9; WORK];
+    let mut digits = [7; DIGITS];
+    let mut out = [0; PRINTED];
+    carry_out_lines(script, &mut table, &mut work, &mut digits, &mut out);
 }
 
 fn main() {
-    encode_cases();
-    decode_cases();
-    length_cases();
-    damage_cases(0);
-    damage_cases(7);
-    damage_cases(255);
-    digit_runs();
-    value_runs();
-    refused_runs();
-    bench_builds();
-    refused_heads();
-    refused_records();
-    border_cards();
-    card_damages(0);
-    card_damages(1);
-    card_damages(5);
-    card_damages(255);
-    card_lengths();
-    digit_count_builds(7);
-    digit_count_builds(13);
-    starred_builds();
-    eight_builds();
-    largest_builds();
-    all_outputs();
+    let mut script = [0; SCRIPT];
+    let count = io::read_full(STDIN_FILENO, &mut script);
+    run_script(&script[..count]);
 }

@@ -10,6 +10,7 @@ use lib.ListN.{length, take, set, length-append}
 use Rattle.field.specs.Logarithm.{flog}
 use Rattle.circuit.specs.Gate.{Gate, Left, Right}
 use Rattle.circuit.specs.Segment.{Node}
+use Rattle.circuit.proofs.Records.{one-less}
 use Rattle.comparison.specs.Bits.{bits, ones}
 use Rattle.comparison.specs.Difference.{minus, difference, zGate}
 use Rattle.comparison.specs.Digits.{digitStart, digitsFrom}
@@ -41,9 +42,6 @@ digit-wrote {table₁ = table₁} {table₂ = table₂} {pen = pen} {pen₁ = pe
     then a (subst (λ (gs : List Gate). Wrote table₁ pen₁ gs table₂ pen₂) (ap₂ (zeroChain (bits (p - 1))) next z) b)
 
 module _ (p : ℕ) (slots : Slots) (k n j : ℕ) (l : j < n) where
-  one-less : n - j ≡ suc (n - (j + 1))
-  one-less = omega arith
-
   abbrev laterDigits : List Gate
   laterDigits = digitsFrom p (equalityCondition slots) k (n - (j + 1)) (j + 1)
 
@@ -84,7 +82,7 @@ module _ (p : ℕ) (slots : Slots) (k n j : ℕ) (l : j < n) where
 
   outputs-cons : equalityFactors p (equalityCondition slots) k (n - j) j ≡ output ∷ laterOutputs
   unfolding equalityFactors
-  outputs-cons = rw (one-less, add-one j)
+  outputs-cons = rw (one-less n j l, add-one j)
 
   -- a digit's output goes to its place
   pub outputs-next : (gates depths : List ℕ) (node : Node) {all : List Node} → n ≤ length gates → n ≤ length depths → node ≡ output

@@ -77,18 +77,19 @@ fn listed_primes() -> [u8; 53]
     PRIMES
 }
 
-// Whether x stands in the list.
+// Whether x stands in the list. It goes through to the end, so that the compiler can compare many entries at a time.
 fn contains(list: &[u8], x: u8) -> bool
     ensures { λ r. ⌜ r ≡ member x (now (list .entry)) ⌝ }
 {
+    let mut found = false;
     let mut place = 0;
     while place < list.len() {
         if list[place] == x {
-            return true;
+            found = true;
         }
         place += 1;
     }
-    false
+    found
 }
 
 // Whether p is one of the listed primes.

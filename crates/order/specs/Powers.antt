@@ -1,4 +1,4 @@
--- The depths of z and its powers, as they are carried while the powers are written.
+-- The depths of z and its powers, as they are lent to each digit.
 use mathlib.Core.Path.{_≡_}
 use mathlib.Core.List.{List}
 use mathlib.Core.Logic.{_⊎_}

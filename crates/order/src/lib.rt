@@ -6,7 +6,7 @@ use writer::Written;
 ghost use mathlib.Core.Path.{_≡_};
 ghost use mathlib.Core.List.{[], _∷_, map};
 ghost use Prim.Native.Nat.{ℕ, suc, _+_, _-_, _*_, _/_, _%_, _≤_, _<_, max};
-ghost use lib.ListN.{length, getD, set};
+ghost use lib.ListN.{length, getD};
 ghost use Rattle.field.specs.Logarithm.{clog};
 ghost use Rattle.field.specs.Polynomials.{orderExponents};
 ghost use Rattle.digits.specs.Number.{mostDigits};
@@ -17,74 +17,64 @@ ghost use Rattle.comparison.specs.OrderDigit.{half as halfOf, lowExponents, odd
 ghost use Rattle.writer.specs.Nodes.{nodeIs};
 ghost use Rattle.writer.specs.Pen.{Wrote, Room, Moved};
 ghost use Rattle.order.specs.Constants.{Constants};
-ghost use Rattle.order.specs.Powers.{Deep};
+ghost use Rattle.order.specs.Powers.{IsWritten, Deep};
 ghost use Rattle.order.specs.Slots.{orderCondition, orderSegment};
 
 // Room for the depths of z and its powers, for any odd p below 256.
 pub const MOST_POWERS: usize = 192;
 
-// The power z^i, from those of its halves, with its depth.
-fn put_power(table: &mut [u8], pen: Pen, z: u16, i: u16, depths: &mut [u16]) -> Pen
-    requires { ⌜ Room (now table) pen 1 × (2 ≤ i) × (i < 256) × (z + (i + 1) / 2 ≤ pen .next) × (pen .next < z + length (now depths)) ⌝ }
-    requires { ⌜ (getD (now depths) (i / 2 - 1) 0 ≡ clog (i / 2)) × (getD (now depths) ((i + 1) / 2 - 1) 0 ≡ clog ((i + 1) / 2)) ⌝ }
+// The power z^i, from those of its halves.
+fn put_power(table: &mut [u8], pen: Pen, z: u16, i: u16) -> Pen
+    requires { ⌜ Room (now table) pen 1 × (2 ≤ i) × (i < 256) × (z + (i + 1) / 2 ≤ pen .next) ⌝ }
     ensures wrote { λ r. ⌜ Wrote (now (table .entry)) pen (powerOf z i ∷ []) (now (table .exit)) r ⌝ }
     ensures moves { λ r. ⌜ Moved pen 1 r ⌝ }
-    ensures deepens { λ r. ⌜ now (depths .exit) ≡ set (now (depths .entry)) (pen .next - z) (clog i) ⌝ }
 {
     let low = i / 2 - 1;
     let high = (i + 1) / 2 - 1;
-    let depth = table::deeper(depths[low as usize], depths[high as usize]) + 1;
-    depths[(pen.next - z) as usize] = depth;
     writer::put_mul(table, pen, z + low, z + high)
 }
 
 // The powers z^i for i = 2 to (p-1)/2.
-fn put_low_powers(table: &mut [u8], pen: Pen, z: u16, p: u16, depths: &mut [u16]) -> Pen
-    requires { ⌜ Room (now table) pen (halfOf p - 1) × (3 ≤ p) × (p < 256) × (pen .next ≡ z + 1) × (powerCount p < length (now depths)) ⌝ }
-    requires { ⌜ Deep p (now depths) 1 ⌝ }
+fn put_low_powers(table: &mut [u8], pen: Pen, z: u16, p: u16) -> Pen
+    requires { ⌜ Room (now table) pen (halfOf p - 1) × (3 ≤ p) × (p < 256) × (pen .next ≡ z + 1) ⌝ }
     ensures wrote { λ r. ⌜ Wrote (now (table .entry)) pen (map (powerOf z) (lowExponents p)) (now (table .exit)) r ⌝ }
     ensures moves { λ r. ⌜ Moved pen (halfOf p - 1) r ⌝ }
-    ensures deepens { λ r. ⌜ Deep p (now (depths .exit)) (halfOf p) ⌝ }
 {
     let half = (p - 1) / 2;
     let mut last = pen;
     let mut i: u16 = 2;
     while i <= half {
-        last = put_power(table, last, z, i, depths);
+        last = put_power(table, last, z, i);
         i += 1;
     }
     last
 }
 
 // The powers z^i for the odd i above (p-1)/2 to p-2.
-fn put_odd_powers(table: &mut [u8], pen: Pen, z: u16, p: u16, depths: &mut [u16]) -> Pen
-    requires { ⌜ Room (now table) pen (halfOf p / 2) × (3 ≤ p) × (p % 2 ≡ 1) × (p < 256) × (pen .next ≡ z + halfOf p) × (powerCount p < length (now depths)) ⌝ }
-    requires { ⌜ Deep p (now depths) (halfOf p) ⌝ }
+fn put_odd_powers(table: &mut [u8], pen: Pen, z: u16, p: u16) -> Pen
+    requires { ⌜ Room (now table) pen (halfOf p / 2) × (3 ≤ p) × (p % 2 ≡ 1) × (p < 256) × (pen .next ≡ z + halfOf p) ⌝ }
     ensures wrote { λ r. ⌜ Wrote (now (table .entry)) pen (map (powerOf z) (oddExponents p)) (now (table .exit)) r ⌝ }
     ensures moves { λ r. ⌜ Moved pen (halfOf p / 2) r ⌝ }
-    ensures deepens { λ r. ⌜ Deep p (now (depths .exit)) (powerCount p) ⌝ }
 {
     let half = (p - 1) / 2;
     let mut last = pen;
     let mut i = half + 1 + half % 2;
     while i < p - 1 {
-        last = put_power(table, last, z, i, depths);
+        last = put_power(table, last, z, i);
         i += 2;
     }
     last
 }
 
 // All powers of z.
-fn put_powers(table: &mut [u8], pen: Pen, z: u16, p: u16, depths: &mut [u16]) -> Pen
-    requires { ⌜ Room (now table) pen (powerCount p) × (3 ≤ p) × (p % 2 ≡ 1) × (p < 256) × (pen .next ≡ z + 1) × (powerCount p < length (now depths)) ⌝ }
+fn put_powers(table: &mut [u8], pen: Pen, z: u16, p: u16) -> Pen
+    requires { ⌜ Room (now table) pen (powerCount p) × (3 ≤ p) × (p % 2 ≡ 1) × (p < 256) × (pen .next ≡ z + 1) ⌝ }
     ensures wrote { λ r. ⌜ Wrote (now (table .entry)) pen (powers p z) (now (table .exit)) r ⌝ }
     ensures moves { λ r. ⌜ Moved pen (powerCount p) r ⌝ }
-    ensures deepens { λ r. ⌜ Deep p (now (depths .exit)) (powerCount p + 1) ⌝ }
 {
-    depths[0] = 0;
-    let low = put_low_powers(table, pen, z, p, depths);
-    let odd = put_odd_powers(table, low, z, p, depths);
-    put_power(table, odd, z, p - 1, depths)
+    let low = put_low_powers(table, pen, z, p);
+    let odd = put_odd_powers(table, low, z, p);
+    put_power(table, odd, z, p - 1)
 }
 
 // How far after z the power z^i stands.
@@ -97,6 +87,57 @@ fn power_place(p: u16, i: u16) -> u16
         return i - 1;
     }
     half + (i / 2 - (half + 1) / 2)
+}
+
+// The depth of z^i at its place, after those of the powers before it: one more than the deeper of its halves'.
+fn put_power_depth(p: u16, i: u16, depths: &mut [u16])
+    requires { ⌜ (p % 2 ≡ 1) × (p < 256) × (2 ≤ i) × IsWritten p i × (powerCount p < length (now depths)) ⌝ }
+    requires { ⌜ Deep p (now depths) (powerGate p 0 i) ⌝ }
+    ensures { λ _. ⌜ Deep p (now (depths .exit)) (powerGate p 0 i + 1) ⌝ }
+{
+    let low = i / 2 - 1;
+    let high = (i + 1) / 2 - 1;
+    let depth = table::deeper(depths[low as usize], depths[high as usize]) + 1;
+    depths[power_place(p, i) as usize] = depth;
+}
+
+// The depths of the powers z^i for i = 2 to (p-1)/2.
+fn put_low_depths(p: u16, depths: &mut [u16])
+    requires { ⌜ (3 ≤ p) × (p % 2 ≡ 1) × (p < 256) × (powerCount p < length (now depths)) ⌝ }
+    requires { ⌜ Deep p (now depths) 1 ⌝ }
+    ensures { λ _. ⌜ Deep p (now (depths .exit)) (halfOf p) ⌝ }
+{
+    let half = (p - 1) / 2;
+    let mut i: u16 = 2;
+    while i <= half {
+        put_power_depth(p, i, depths);
+        i += 1;
+    }
+}
+
+// The depths of the powers z^i for the odd i above (p-1)/2 to p-2.
+fn put_odd_depths(p: u16, depths: &mut [u16])
+    requires { ⌜ (3 ≤ p) × (p % 2 ≡ 1) × (p < 256) × (powerCount p < length (now depths)) ⌝ }
+    requires { ⌜ Deep p (now depths) (halfOf p) ⌝ }
+    ensures { λ _. ⌜ Deep p (now (depths .exit)) (powerCount p) ⌝ }
+{
+    let half = (p - 1) / 2;
+    let mut i = half + 1 + half % 2;
+    while i < p - 1 {
+        put_power_depth(p, i, depths);
+        i += 2;
+    }
+}
+
+// The depths of z and its powers, the same for every digit: entry k is that of gate z + k.
+pub fn put_power_depths(p: u16, depths: &mut [u16])
+    requires { ⌜ (3 ≤ p) × (p % 2 ≡ 1) × (p < 256) × (powerCount p < length (now depths)) ⌝ }
+    ensures { λ _. ⌜ Deep p (now (depths .exit)) (powerCount p + 1) ⌝ }
+{
+    depths[0] = 0;
+    put_low_depths(p, depths);
+    put_odd_depths(p, depths);
+    put_power_depth(p, p - 1, depths);
 }
 
 // A term: the SCALE of a power by its constant.
@@ -199,17 +240,17 @@ fn put_order_digit(
     slots: Slots,
     j: u16,
     constants: &[u8],
-    depths: &mut [u16],
+    depths: &[u16],
 ) -> Written
     requires { ⌜ Room (now table) pen (length (digitGates p (orderCondition backward slots) j (pen .next))) × (3 ≤ p) × (p % 2 ≡ 1) × (p < 256) × (slots .left + j < 256) × (slots .right + j < 256) ⌝ }
-    requires { ⌜ Constants p (now constants) × (powerCount p < length (now depths)) ⌝ }
+    requires { ⌜ Constants p (now constants) × (powerCount p < length (now depths)) × Deep p (now depths) (powerCount p + 1) ⌝ }
     ensures wrote { λ r. ⌜ Wrote (now (table .entry)) pen (digitGates p (orderCondition backward slots) j (pen .next)) (now (table .exit)) (r .pen) ⌝ }
     ensures moves { λ r. ⌜ Moved pen (length (digitGates p (orderCondition backward slots) j (pen .next))) (r .pen) ⌝ }
     ensures deepens { λ r. ⌜ r .node .depth ≡ clog (p - 1) ⌝ }
 {
     let k = pen.next;
     let differed = writer::put_difference(table, pen, backward, slots.left + j, slots.right + j);
-    let raised = put_powers(table, differed, k + 2, p, depths);
+    let raised = put_powers(table, differed, k + 2, p);
     let less = put_terms(table, raised, k + 2, p, constants, depths);
     let node = less.node;
     Written {
@@ -226,10 +267,10 @@ fn put_order_digits(
     backward: bool,
     slots: Slots,
     constants: &[u8],
-    depths: &mut [u16],
+    depths: &[u16],
 ) -> Written
     requires { ⌜ Room (now table) pen (length (digitsFrom p (orderCondition backward slots) (pen .next) (slots .count) 0)) × (3 ≤ p) × (p % 2 ≡ 1) × (p < 256) × (1 ≤ slots .count) × (slots .left + slots .count ≤ 256) × (slots .right + slots .count ≤ 256) ⌝ }
-    requires { ⌜ Constants p (now constants) × (powerCount p < length (now depths)) ⌝ }
+    requires { ⌜ Constants p (now constants) × (powerCount p < length (now depths)) × Deep p (now depths) (powerCount p + 1) ⌝ }
     ensures wrote { λ r. ⌜ Wrote (now (table .entry)) pen (digitsFrom p (orderCondition backward slots) (pen .next) (slots .count) 0) (now (table .exit)) (r .pen) ⌝ }
     ensures moves { λ r. ⌜ Moved pen (length (digitsFrom p (orderCondition backward slots) (pen .next) (slots .count) 0)) (r .pen) ⌝ }
     ensures deepens { λ r. ⌜ r .node .depth ≡ clog (p - 1) ⌝ }
@@ -254,10 +295,10 @@ pub fn put_order(
     backward: bool,
     slots: Slots,
     constants: &[u8],
-    depths: &mut [u16],
+    depths: &[u16],
 ) -> Written
     requires { ⌜ Room (now table) pen (length (orderSegment p backward slots (pen .next) .gates)) × (3 ≤ p) × (p % 2 ≡ 1) × (p < 256) × (1 ≤ slots .count) × (slots .count ≤ mostDigits) × (slots .left + slots .count ≤ mostDigits) × (slots .right + slots .count ≤ mostDigits) ⌝ }
-    requires { ⌜ Constants p (now constants) × (powerCount p < length (now depths)) ⌝ }
+    requires { ⌜ Constants p (now constants) × (powerCount p < length (now depths)) × Deep p (now depths) (powerCount p + 1) ⌝ }
     ensures wrote { λ r. ⌜ Wrote (now (table .entry)) pen (orderSegment p backward slots (pen .next) .gates) (now (table .exit)) (r .pen) ⌝ }
     ensures moves { λ r. ⌜ Moved pen (length (orderSegment p backward slots (pen .next) .gates)) (r .pen) ⌝ }
     ensures output { λ r. ⌜ nodeIs (r .node) ≡ orderSegment p backward slots (pen .next) .output ⌝ }

@@ -23,7 +23,8 @@ use Rattle.circuit.proofs.Fitting.{named}
 use Rattle.circuit.proofs.Reading.{says}
 use Rattle.table.specs.Adding.{Addition, addition, adding, AreLow}
 use Rattle.table.specs.Reporting.{reporting}
-use Rattle.table.proofs.Records.{recordAt, lentAt, lent-is, next-record, one-less}
+use Rattle.circuit.proofs.Records.{one-less}
+use Rattle.table.proofs.Records.{recordAt, lentAt, lent-is, next-record}
 use Rattle.table.proofs.Reporting.{tallying, none-yet, deepened, next-gate, stops, ends}
 
 -- the depths, with one more that is no deeper than its number

@@ -17,7 +17,8 @@ use Rattle.circuit.specs.Table.{Head, leftSlots, rightSlots}
 use Rattle.circuit.specs.Value.{values}
 use Rattle.circuit.proofs.Reading.{gates-cons}
 use Rattle.table.specs.Running.{CanRun, valueIn, valuesIn}
-use Rattle.table.proofs.Records.{recordAt, lentAt, lent-is, next-record, one-less}
+use Rattle.circuit.proofs.Records.{one-less}
+use Rattle.table.proofs.Records.{recordAt, lentAt, lent-is, next-record}
 
 abbrev pub algebra : Head → List ℕ → List ℕ → Algebra ℕ
 algebra head left right = values (head .prime) left right

@@ -74,7 +74,7 @@ pub fn wide(x: u8) -> usize
 }
 
 // Two bytes, the low one first.
-fn u16_at(bytes: &[u8], at: usize) -> usize
+pub fn u16_at(bytes: &[u8], at: usize) -> usize
     requires { ⌜ at + 2 ≤ length (now bytes) ⌝ }
     ensures { λ r. ⌜ (r ≡ u16At (now (bytes .entry)) at) × (r < 65536) ⌝ }
 {
@@ -284,7 +284,7 @@ fn read_gate(bytes: &[u8], head: TableHead, earlier: &[u16]) -> Added
 
 // 100 for each product and the weight for each square.
 pub fn cost_of(products: u32, squares: u32, weight: u8) -> Cost
-    requires { ⌜ products + squares ≤ mostGates ⌝ }
+    requires { ⌜ (products < 65536) × (squares < 65536) ⌝ }
     ensures { λ r. ⌜ r .0 ≡ 100 * products + weight * squares ⌝ }
 {
     Cost(100 * products + (weight as u32) * squares)

@@ -23,7 +23,7 @@ unfolding gatesBytes
 bytes-append [] hs = refl
 bytes-append (g ∷ gs) hs = ap (λ (t : List ℕ). gateBytes g ++ t) (bytes-append gs hs)
 
-sets-append : (table : List ℕ) (i : ℕ) (xs ys : List ℕ) → sets table i (xs ++ ys) ≡ sets (sets table i xs) (i + length xs) ys
+pub sets-append : (table : List ℕ) (i : ℕ) (xs ys : List ℕ) → sets table i (xs ++ ys) ≡ sets (sets table i xs) (i + length xs) ys
 sets-append table i [] ys = ap (λ (k : ℕ). sets table k ys) (sym (add-zero i))
 sets-append table i (x ∷ xs) ys =
     let e : suc i + length xs ≡ i + length (x ∷ xs) = omega arith in

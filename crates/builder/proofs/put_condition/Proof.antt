@@ -63,12 +63,13 @@ is-backward-requires c κs = search needs
 
 put-order-requires : tie.Need-put-order-requires
 put-order-requires c κs =
-    let b = c .before .before in
+    let b = c .before in
     let o = b .before .before in
     let s = start o in
     let a = s .args in
     let asked = s .pre .0 in
     let within = asked .4 in
+    let ready = s .pre .1 .0 (sym (o .is-order .ensures) ∙ b .before .if1 .taken) in
     let room : Room (a .table .now) (a .pen) (length (order b .gates)) =
     omega (arith, size (a .pen) (flipped o) (order b) (whole o) (ends-order b), asked)
     in (
@@ -82,13 +83,13 @@ put-order-requires c κs =
         within .2,
         within .3,
       ),
-      (s .pre .1 .0 (sym (o .is-order .ensures) ∙ b .before .if1 .taken), s .pre .1 .1),
+      (ready .0, s .pre .1 .1, ready .1),
     )
 
 put-ending-requires : tie.Need-put-ending-requires
 put-ending-requires c κs =
-    let w = c .before .before .before .before .before in
-    let b = w .before .before .before in
+    let w = c .before .before .before in
+    let b = w .before .before in
     let o = b .before .before in
     let s = start o in
     let a = s .args in
@@ -101,14 +102,11 @@ put-ending-requires c κs =
 same-length : tie.Need-same-length
 same-length c = search needs
 
-same-length-2 : tie.Need-same-length-2
-same-length-2 c = search needs
-
 returns : tie.Need-returns
 returns c =
     let f = c .before .before in
-    let w = f .before .before .before .before .before .before in
-    let b = w .before .before .before in
+    let w = f .before .before .before .before in
+    let b = w .before .before in
     let o = b .before .before in
     let e = w .put-order .ensures in
     let r = f .put-ending .ensures in
@@ -130,8 +128,8 @@ put-ending-requires-2 c κs =
     let s = start o in
     omega (arith, size (s .args .pen) (flipped o) (equality i) (whole o) (ends-equality i), s .pre .0, w .put-equality .ensures .1 .0, w)
 
-same-length-3 : tie.Need-same-length-3
-same-length-3 c = search needs
+same-length-2 : tie.Need-same-length-2
+same-length-2 c = search needs
 
 returns-2 : tie.Need-returns-2
 returns-2 c =
@@ -154,9 +152,8 @@ put-condition-spec =
     put-order-requires
     put-ending-requires
     same-length
-    same-length-2
     returns
     put-equality-requires
     put-ending-requires-2
-    same-length-3
+    same-length-2
     returns-2)

@@ -19,15 +19,14 @@ use Rattle.builder.proofs.put_conditions.Statement.{statement}
 use Rattle.builder.proofs.put_conditions.Tie as tie
 
 abbrev Inv-loop : tie.InvT-loop
-Inv-loop records count p table₀ constants powers₀ gates₀ depths₀ pen₀ slot₀ k₀ table powers gates depths pen slot k =
+Inv-loop records count p table₀ constants powers gates₀ depths₀ pen₀ slot₀ k₀ table gates depths pen slot k =
     Adds p records count table₀ table pen slot k gates depths
     × (length table ≡ length table₀)
-    × (length powers ≡ length powers₀)
     × (length gates ≡ length gates₀)
     × (length depths ≡ length depths₀)
 
 abbrev μ-loop : tie.MeasureT-loop
-μ-loop records count p table₀ constants powers₀ gates₀ depths₀ pen₀ slot₀ k₀ table powers gates depths pen slot k = count - k
+μ-loop records count p table₀ constants powers gates₀ depths₀ pen₀ slot₀ k₀ table gates depths pen slot k = count - k
 
 -- where the function and the turn began
 abbrev start : tie.At-loop Inv-loop μ-loop → tie.Start Inv-loop μ-loop
@@ -68,7 +67,7 @@ new-pen-requires c κs = search needs
 loop-holds : tie.Need-loop-holds Inv-loop μ-loop
 loop-holds c =
     let s = c .before .before .before .before .before .before .before in
-    (rw (c .new-pen .ensures) (begins (s .args .p) _ _ _ _ _ (s .pre .0 .0)), refl, refl, refl, refl)
+    (rw (c .new-pen .ensures) (begins (s .args .p) _ _ _ _ _ (s .pre .0 .0)), refl, refl, refl)
 
 mul-read-condition : tie.Need-mul-read-condition Inv-loop μ-loop
 mul-read-condition c = search needs
@@ -96,39 +95,39 @@ cast-slot c = search needs
 
 put-condition-requires : tie.Need-put-condition-requires Inv-loop μ-loop
 put-condition-requires c κs =
-    let r = c .before .before .before in
+    let r = c .before .before in
     let l = turn r in
     let s = start l in
     let order = own-order _ _ _ _ _ _ _ _ _ _ (less r) (l .loop .inv .0) (condition r) (read r) in (
       (omega (arith, fit r, l .loop .inv .0 .counts, l .loop .inv .1, s .pre .1 .0), s .pre .0 .1, s .pre .0 .2, s .pre .0 .3, slotted r),
-      (λ h. s .pre .1 .1 .0 (order h), omega (arith, l .loop .inv .2, s .pre .1 .1 .1)),
+      (λ h. s .pre .1 .1 .0 (order h), s .pre .1 .1 .1),
     )
 
 mul-gates : tie.Need-mul-gates Inv-loop μ-loop
 mul-gates c =
-    let r = c .before .before .before .before .before .before .before .before in omega (arith, less r, start (turn r) .pre .0 .0 .few)
+    let r = c .before .before .before .before .before in omega (arith, less r, start (turn r) .pre .0 .0 .few)
 
 slice-write-gates : tie.Need-slice-write-gates Inv-loop μ-loop
 slice-write-gates c =
-    let r = c .before .before .before .before .before .before .before .before in
+    let r = c .before .before .before .before .before in
     let l = turn r in
-    omega (arith, less r, l .loop .inv .3, start l .pre .0 .4)
+    omega (arith, less r, l .loop .inv .2, start l .pre .0 .4)
 
 mul-depths : tie.Need-mul-depths Inv-loop μ-loop
 mul-depths c =
-    let r = c .before .before .before .before .before .before .before .before in omega (arith, less r, start (turn r) .pre .0 .0 .few)
+    let r = c .before .before .before .before .before in omega (arith, less r, start (turn r) .pre .0 .0 .few)
 
 slice-write-depths : tie.Need-slice-write-depths Inv-loop μ-loop
 slice-write-depths c =
-    let r = c .before .before .before .before .before .before .before .before in
+    let r = c .before .before .before .before .before in
     let l = turn r in
-    omega (arith, less r, l .loop .inv .4, start l .pre .0 .5)
+    omega (arith, less r, l .loop .inv .3, start l .pre .0 .5)
 
 cast-slot-2 : tie.Need-cast-slot-2 Inv-loop μ-loop
 cast-slot-2 c = search needs
 
 add-slot : tie.Need-add-slot Inv-loop μ-loop
-add-slot c = omega (arith, slotted (c .before .before .before .before .before .before .before .before .before))
+add-slot c = omega (arith, slotted (c .before .before .before .before .before .before))
 
 enum-told : tie.Need-enum-told Inv-loop μ-loop
 enum-told c = search needs
@@ -142,9 +141,6 @@ same-length-2 c = c .before .before .before .before .before .loop .inv .2
 same-length-3 : tie.Need-same-length-3 Inv-loop μ-loop
 same-length-3 c = c .before .before .before .before .before .loop .inv .3
 
-same-length-4 : tie.Need-same-length-4 Inv-loop μ-loop
-same-length-4 c = c .before .before .before .before .before .loop .inv .4
-
 returns : tie.Need-returns Inv-loop μ-loop
 returns c =
     let r = c .before .before in
@@ -154,37 +150,33 @@ returns c =
 
 add-k : tie.Need-add-k Inv-loop μ-loop
 add-k c =
-    let r = c .before .before .before .before .before .before .before .before .before in omega (arith, less r, start (turn r) .pre .0 .0 .few)
+    let r = c .before .before .before .before .before .before in omega (arith, less r, start (turn r) .pre .0 .0 .few)
 
 loop-less : tie.Need-loop-less Inv-loop μ-loop
 loop-less c = search needs
 
 loop-again : tie.Need-loop-again Inv-loop μ-loop
 loop-again c =
-    let w = c .before .before .before .before .before in
-    let r = w .before .before .before .before in
+    let w = c .before .before .before in
+    let r = w .before .before .before in
     let l = turn r in
     let s = start l in
     let e = w .put-condition .ensures in (
       adds _ _ _ _ _ _ _ _ _ _ (less r) (l .loop .inv .0) (condition r) (read r) _ _ _ _ (e .0) (e .1 .0) (e .1 .1)
-          (omega (arith, less r, l .loop .inv .3, s .pre .0 .4)) (omega (arith, less r, l .loop .inv .4, s .pre .0 .5)),
+          (omega (arith, less r, l .loop .inv .2, s .pre .0 .4)) (omega (arith, less r, l .loop .inv .3, s .pre .0 .5)),
       omega (arith, l .loop .inv .1, w),
-      omega (arith, l .loop .inv .2, w),
-      length-set (l .loop .gates) (l .loop .k) (w .put-condition .result .node .gate) ∙ l .loop .inv .3,
-      length-set (l .loop .depths) (l .loop .k) (w .put-condition .result .node .depth) ∙ l .loop .inv .4,
+      length-set (l .loop .gates) (l .loop .k) (w .put-condition .result .node .gate) ∙ l .loop .inv .2,
+      length-set (l .loop .depths) (l .loop .k) (w .put-condition .result .node .depth) ∙ l .loop .inv .3,
     )
 
+same-length-4 : tie.Need-same-length-4 Inv-loop μ-loop
+same-length-4 c = c .before .loop .inv .1
+
 same-length-5 : tie.Need-same-length-5 Inv-loop μ-loop
-same-length-5 c = c .before .loop .inv .1
+same-length-5 c = c .before .loop .inv .2
 
 same-length-6 : tie.Need-same-length-6 Inv-loop μ-loop
-same-length-6 c = c .before .loop .inv .2
-
-same-length-7 : tie.Need-same-length-7 Inv-loop μ-loop
-same-length-7 c = c .before .loop .inv .3
-
-same-length-8 : tie.Need-same-length-8 Inv-loop μ-loop
-same-length-8 c = c .before .loop .inv .4
+same-length-6 c = c .before .loop .inv .3
 
 returns-2 : tie.Need-returns-2 Inv-loop μ-loop
 returns-2 c =
@@ -217,13 +209,11 @@ put-conditions-spec =
     same-length
     same-length-2
     same-length-3
-    same-length-4
     returns
     add-k
     loop-less
     loop-again
+    same-length-4
     same-length-5
     same-length-6
-    same-length-7
-    same-length-8
     returns-2)

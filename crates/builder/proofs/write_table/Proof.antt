@@ -13,9 +13,12 @@ use borrow.Author.Needs.{needs}
 use Rattle.builder.proofs.write_table.Statement.{statement}
 use Rattle.builder.proofs.write_table.Tie as tie
 
--- where the function began
+-- where the function began, and what was before the conditions
+abbrev prepared : tie.After-put-conditions → tie.After-prepare-order
+prepared q = q .before .before .before .before .before .before .before .before .before .before .before .before .before .before .before
+
 abbrev start : tie.After-put-conditions → tie.Start
-start q = q .before .before .before .before .before .before .before .before .before .before .before .before .before .before .before .before .before .before .before .before .before .before .before
+start q = prepared q .before .before .before .before .before .before .before .before .before .before .before
 
 wide-requires : tie.Need-wide-requires
 wide-requires c κs = search needs
@@ -29,12 +32,12 @@ part-records-start c = card-long _ _ _ _ (c .before .before .before .before .bef
 part-records-end : tie.Need-part-records-end
 part-records-end c = search needs
 
-put-constants-requires : tie.Need-put-constants-requires
-put-constants-requires c κs =
-    let w = c .before .before in
+prepare-order-requires : tie.Need-prepare-order-requires
+prepare-order-requires c κs =
+    let w = c .before .before .before in
     let s = w .before .before .before .before .before .before .before in
     let facts = prime-facts _ _ _ _ (s .pre .0) in
-    rw (w .wide .ensures .0, records-lent) (readable-said _ _ _ _ (s .pre .0), facts .0, facts .1, omega (arith, facts .2, s .pre .1 .0))
+    rw (w .wide .ensures .0, records-lent) (readable-said _ _ _ _ (s .pre .0), facts .0, facts .1, omega (arith, facts .2, s .pre .1), omega (arith, facts .2, s .pre .1))
 
 put-head-requires : tie.Need-put-head-requires
 put-head-requires c κs = search needs
@@ -45,23 +48,23 @@ cast-put-conditions c = search needs
 put-conditions-requires : tie.Need-put-conditions-requires
 put-conditions-requires c κs =
     let h = c .before .before .before .before .before .before .before .before in
-    let o = h .before .before .before .before in
-    let w = o .before .before .before in
+    let o = h .before .before .before .before .before .before in
+    let w = o .before .before .before .before in
     let s = w .before .before .before .before .before .before .before in
     let facts = prime-facts _ _ _ _ (s .pre .0) in
     let counts = count-facts _ _ _ _ (s .pre .0) in
     let room = room-said _ _ _ _ (s .pre .0) in
     rw (w .wide .ensures .0, records-lent) (
       (readable-said _ _ _ _ (s .pre .0), facts .0, facts .1, omega (arith, facts .2), omega (arith, counts, s .pre .1), omega (arith, counts, s .pre .1)),
-      ((omega (arith, room, h), omega (arith, room)), (rw (w .wide .ensures .0, records-lent) at (o .put-constants .ensures), omega (arith, facts .2, s .pre .1))),
+      ((omega (arith, room, h), omega (arith, room)), (rw (w .wide .ensures .0, records-lent) at (o .prepare-order .ensures), omega (arith, facts .2, s .pre .1))),
     )
 
 put-product-tree-requires : tie.Need-put-product-tree-requires
 put-product-tree-requires c κs =
-    let q = c .before .before .before .before .before .before .before .before .before .before .before in
+    let q = c .before .before .before .before .before .before .before .before .before in
     let h = q .before .before .before .before .before .before .before .before .before in
-    let o = h .before .before .before .before in
-    let w = o .before .before .before in
+    let o = h .before .before .before .before .before .before in
+    let w = o .before .before .before .before in
     let s = w .before .before .before .before .before .before .before in
     let e = rw (w .wide .ensures .0, records-lent) at (q .put-conditions .ensures) in
     let counts = count-facts _ _ _ _ (s .pre .0) in
@@ -79,19 +82,19 @@ conditions-wrote : (q : tie.After-put-conditions) → (
     )
 conditions-wrote q =
     let h = q .before .before .before .before .before .before .before .before .before in
-    rw (h .before .before .before .before .before .before .before .wide .ensures .0, records-lent, h .put-head .ensures) at (q .put-conditions .ensures .0)
+    rw (h .before .before .before .before .before .before .before .before .before .before .wide .ensures .0, records-lent, h .put-head .ensures) at (q .put-conditions .ensures .0)
 
 -- and the product tree over their outputs
 tree-wrote : (t : tie.After-put-product-tree) → (
-    let q = t .before .before .before .before .before .before .before .before .before .before .before .before in
+    let q = t .before .before .before .before .before .before .before .before .before .before in
     let tree = productTree (q .put-conditions .result .next) (outputsSaid _ _ _ _ (start q .pre .0)) in
     Wrote (q .put-conditions .last .1 .1 .1 .0) (q .put-conditions .result) (tree .gates) (t .put-product-tree .last .0) (t .put-product-tree .result .pen)
     × (t .put-product-tree .result .node .depth ≡ tree .output .depth)
     )
 tree-wrote t =
-    let q = t .before .before .before .before .before .before .before .before .before .before .before .before in
+    let q = t .before .before .before .before .before .before .before .before .before .before in
     let h = q .before .before .before .before .before .before .before .before .before in
-    let w = h .before .before .before .before .before .before .before in
+    let w = h .before .before .before .before .before .before .before .before .before .before in
     let outputs = rw (w .wide .ensures .0, records-lent) at (q .put-conditions .ensures .1 .1) in
     let e = rw (w .wide .ensures .0, outputs) at (t .put-product-tree .ensures) in
     (e .0, ap (λ (f : segment.Node). f .depth) (e .1 .1))
@@ -99,20 +102,20 @@ tree-wrote t =
 report-of-requires : tie.Need-report-of-requires
 report-of-requires c κs =
     let t = c .before .before .before .before .before .before in
-    let q = t .before .before .before .before .before .before .before .before .before .before .before .before in
+    let q = t .before .before .before .before .before .before .before .before .before .before in
     counts-said _ _ _ _ (start q .pre .0) _ _ _ _ _ (conditions-wrote q) (tree-wrote t .0) (tree-wrote t .1)
 
 same-length : tie.Need-same-length
 same-length c =
     let t = c .before .before .before .before .before .before .before in
-    let q = t .before .before .before .before .before .before .before .before .before .before .before .before in
+    let q = t .before .before .before .before .before .before .before .before .before .before in
     omega (arith, t, q, q .before .before .before .before .before .before .before .before .before)
 
 same-length-2 : tie.Need-same-length-2
-same-length-2 c = omega (arith, c .before .before .before .before .before .before .before .before .before .before .before .before .before .before .before .before .before .before .before .before .before .before .before .before .before .before .before .before .before .before .before .before)
+same-length-2 c = omega (arith, prepared (c .before .before .before .before .before .before .before .before .before .before .before .before .before .before .before .before .before))
 
 same-length-3 : tie.Need-same-length-3
-same-length-3 c = search needs
+same-length-3 c = omega (arith, prepared (c .before .before .before .before .before .before .before .before .before .before .before .before .before .before .before .before .before))
 
 same-length-4 : tie.Need-same-length-4
 same-length-4 c = search needs
@@ -123,7 +126,7 @@ same-length-5 c = search needs
 returns : tie.Need-returns
 returns c =
     let t = c .before .before .before .before .before .before .before in
-    let q = t .before .before .before .before .before .before .before .before .before .before .before .before in
+    let q = t .before .before .before .before .before .before .before .before .before .before in
     let b = start q .pre .0 in (
       c .report-of .ensures ∙ answers-said _ _ _ _ b _ _ _ _ _ (conditions-wrote q) (tree-wrote t .0) (tree-wrote t .1),
       leaves-said _ _ _ _ b _ _ _ _ _ (conditions-wrote q) (tree-wrote t .0) (tree-wrote t .1),
@@ -137,7 +140,7 @@ write-table-spec =
     sub-records
     part-records-start
     part-records-end
-    put-constants-requires
+    prepare-order-requires
     put-head-requires
     cast-put-conditions
     put-conditions-requires

@@ -1,49 +1,40 @@
--- `order::put_low_powers` meets its contract. The invariant: the powers that are left to write give all of them, and the entries of those written
--- are their depths. The measure is how many are left.
+-- `order::put_low_powers` meets its contract. The invariant: the powers that are left to write give all of them.
+-- The measure is how many are left.
 -- Assumes nothing.
-use mathlib.Core.Path.{_≡_, refl, _∙_}
-use mathlib.Core.Logic.{inl}
+use mathlib.Core.Path.{_≡_, refl}
 use mathlib.Core.List.{[], _∷_, map}
-use Prim.Native.Nat.{_+_, _-_, _/_, _≤_}
+use Prim.Native.Nat.{_+_, _-_, _≤_}
 use native.Mathlib.Omega.{arith}
 use borrow.Author.Needs.{needs}
 use lib.ListN.{length}
-use Rattle.comparison.specs.OrderDigit.{half, ascending, lowExponents, powerOf, powerGate}
-use Rattle.comparison.proofs.Powers.{gate-low}
+use Rattle.comparison.specs.OrderDigit.{half, ascending, lowExponents, powerOf}
 use Rattle.writer.specs.Remains.{Remains}
 use Rattle.writer.proofs.Remains.{remains-all, remains-as, remains-then}
 use Rattle.writer.proofs.Writing.{none}
-use Rattle.order.specs.Powers.{Deep}
-use Rattle.order.proofs.Powers.{deep-low, deep-step, low-cons}
+use Rattle.order.proofs.Powers.{low-cons}
 use Rattle.order.proofs.put_low_powers.Statement.{statement}
 use Rattle.order.proofs.put_low_powers.Tie as tie
 
 abbrev Inv-loop : tie.InvT-loop
-Inv-loop table₀ z p depths₀ h last₀ i₀ table depths last i =
+Inv-loop table₀ z p h last₀ i₀ table last i =
     (2 ≤ i) × (i ≤ half p + 1) × (last .next + 1 ≡ z + i) × (last .products ≤ last .next) × (last .squares ≤ last .next)
-    × (length table ≡ length table₀) × (length depths ≡ length depths₀) × Deep p depths (last .next - z)
+    × (length table ≡ length table₀)
     × Remains table₀ last₀ (map (powerOf z) (lowExponents p)) table last (map (powerOf z) (ascending (half p + 1 - i) i))
 
 abbrev μ-loop : tie.MeasureT-loop
-μ-loop table₀ z p depths₀ h last₀ i₀ table depths last i = half p + 1 - i
+μ-loop table₀ z p h last₀ i₀ table last i = half p + 1 - i
 
 sub-half : tie.Need-sub-half Inv-loop μ-loop
 sub-half c = search needs
 
 loop-holds : tie.Need-loop-holds Inv-loop μ-loop
 loop-holds c =
-    let s = c .before .before in
+    let s = c .before in
     let e : half (s .args .p) + 1 - 2 ≡ half (s .args .p) - 1 = omega arith in
-    let one : s .args .pen .next - s .args .z ≡ 1 = omega arith in
-    (omega arith, omega arith, omega arith, omega arith, omega arith, refl, refl, rw one (s .pre .1), rw e remains-all)
+    (omega arith, omega arith, omega arith, omega arith, omega arith, refl, rw e remains-all)
 
 put-power-requires : tie.Need-put-power-requires Inv-loop μ-loop
-put-power-requires c κs =
-    let l = c .before .before .before .loop in
-    let a = c .before .before .before .before .before .before .args in
-    let low = deep-low (a .p) _ (l .i / 2) (l .depths) (omega arith) (omega arith) (omega arith) (omega arith) (l .inv .7) in
-    let high = deep-low (a .p) _ ((l .i + 1) / 2) (l .depths) (omega arith) (omega arith) (omega arith) (omega arith) (l .inv .7) in
-    (omega arith, (low, high))
+put-power-requires c κs = search needs
 
 add-i : tie.Need-add-i Inv-loop μ-loop
 add-i c = search needs
@@ -53,38 +44,28 @@ loop-less c = search needs
 
 loop-again : tie.Need-loop-again Inv-loop μ-loop
 loop-again c =
-    let w = c .before .before .before .before in
-    let l = w .before .before .before .before in
-    let a = l .before .before .before .args in
-    let place : powerGate (a .p) 0 (l .loop .i) ≡ l .loop .last .next - a .z = gate-low (a .p) 0 (l .loop .i) (omega arith) ∙ omega arith in
-    let more : w .put-power .result .next - a .z ≡ l .loop .last .next - a .z + 1 = omega arith in
-    let step = deep-step (a .p) _ (l .loop .i) (l .loop .depths) (omega arith, omega arith, inl (omega arith)) place (omega arith) (l .loop .inv .7) in (
+    let w = c .before .before in
+    let l = w .before .before .before in
+    let a = l .before .before .args in (
       omega arith,
       omega arith,
       omega arith,
       omega arith,
       omega arith,
       omega arith,
-      omega arith,
-      rw (more, w .put-power .ensures .1 .1) step,
-      remains-then {gs = powerOf (a .z) (l .loop .i) ∷ []} (remains-as (low-cons (a .z) (half (a .p)) (l .loop .i) (omega arith)) (l .loop .inv .8))
+      remains-then {gs = powerOf (a .z) (l .loop .i) ∷ []} (remains-as (low-cons (a .z) (half (a .p)) (l .loop .i) (omega arith)) (l .loop .inv .6))
           (w .put-power .ensures .0),
     )
 
 same-length : tie.Need-same-length Inv-loop μ-loop
 same-length c = c .before .loop .inv .5
 
-same-length-2 : tie.Need-same-length-2 Inv-loop μ-loop
-same-length-2 c = c .before .loop .inv .6
-
 returns : tie.Need-returns Inv-loop μ-loop
 unfolding ascending
 returns c =
     let l = c .before in
-    let a = l .before .before .before .args in
-    let e : half (a .p) + 1 - l .loop .i ≡ 0 = omega arith in
-    let all : l .loop .last .next - a .z ≡ half (a .p) = omega arith in
-    ((rw e at (l .loop .inv .8)) .gives _ _ none, (omega arith, rw (← all) (l .loop .inv .7)))
+    let e : half (l .before .before .args .p) + 1 - l .loop .i ≡ 0 = omega arith in
+    ((rw e at (l .loop .inv .6)) .gives _ _ none, omega arith)
 
 pub put-low-powers-spec : {M : Type 1} → statement M
 put-low-powers-spec =
@@ -99,5 +80,4 @@ put-low-powers-spec =
     loop-less
     loop-again
     same-length
-    same-length-2
     returns)

@@ -11,15 +11,15 @@ use Rattle.order.proofs.put_order.Tie as tie
 
 put-order-digits-requires : tie.Need-put-order-digits-requires
 put-order-digits-requires c κs =
-    let s = c .before .before .before .before .before in
+    let s = c .before .before .before .before in
     let a = s .args in
     let size = length-is (a .p) (a .backward) (a .slots) (a .pen .next) _ refl in
     (omega (arith, size, s .pre .0), s .pre .1)
 
 join-digits-requires : tie.Need-join-digits-requires
 join-digits-requires c κs =
-    let d = c .before .before .before .before .before in
-    let s = d .before .before .before .before .before .before in
+    let d = c .before .before .before in
+    let s = d .before .before .before .before .before in
     let a = s .args in
     let e = d .put-order-digits .ensures in
     let size = length-is (a .p) (a .backward) (a .slots) (a .pen .next) _ (e .1 .0 .0) in
@@ -28,14 +28,11 @@ join-digits-requires c κs =
 same-length : tie.Need-same-length
 same-length c = search needs
 
-same-length-2 : tie.Need-same-length-2
-same-length-2 c = search needs
-
 returns : tie.Need-returns
 returns c =
     let j = c .before .before in
-    let d = j .before .before .before .before .before .before in
-    let s = d .before .before .before .before .before .before in
+    let d = j .before .before .before .before in
+    let s = d .before .before .before .before .before in
     let a = s .args in
     let e = d .put-order-digits .ensures in
     let r = j .join-digits .ensures in
@@ -47,4 +44,4 @@ returns c =
 pub put-order-spec : {M : Type 1} → statement M
 put-order-spec =
     tie.close
-    (tie.spec put-order-digits-requires join-digits-requires same-length same-length-2 returns)
+    (tie.spec put-order-digits-requires join-digits-requires same-length returns)

@@ -11,14 +11,11 @@ use Rattle.order.proofs.Digit.{digit-length, digit-wrote}
 use borrow.Author.Needs.{needs}
 use Rattle.order.proofs.put_order_digit.Statement.{statement}
 use Rattle.order.proofs.put_order_digit.Tie as tie
-use Rattle.order.proofs.put_order_digit.Reads as reads
-use Rattle.order.proofs.put_order_digit.Lts as lts
-use Rattle.order.proofs.put_equal.Reads as put-equal-reads
-use Rattle.order.proofs.put_powers.Reads as put-powers-reads
-use Rattle.order.proofs.put_terms.Reads as put-terms-reads
-use Rattle.writer.proofs.put_difference.Reads as put-difference-reads
 
-size : (s : lts.Start (put-difference-reads.Asked, put-difference-reads.Learnt, put-powers-reads.Asked, put-powers-reads.Learnt, put-terms-reads.Asked, put-terms-reads.Learnt, put-equal-reads.Asked, put-equal-reads.Learnt) reads.Pre reads.Post) → (let a = s .args in length (digitGates (a .p) (orderCondition (a .backward) (a .slots)) (a .j) (a .pen .next)) ≡ 3 + (powerCount (a .p) + a .p) + length (equalGates (a .p) (a .j) (a .pen .next)))
+size : (s : tie.Start) → (
+    let a = s .args in
+    length (digitGates (a .p) (orderCondition (a .backward) (a .slots)) (a .j) (a .pen .next)) ≡ 3 + (powerCount (a .p) + a .p) + length (equalGates (a .p) (a .j) (a .pen .next))
+    )
 size s =
     let a = s .args in
     digit-length (a .p) (a .backward) (a .slots) (a .j) (a .pen .next) (s .pre .0 .1) (s .pre .0 .2)
@@ -37,7 +34,7 @@ add-put-powers c = search needs
 
 put-powers-requires : tie.Need-put-powers-requires
 put-powers-requires c κs =
-    let d = c .before .before .before .before in
+    let d = c .before .before .before in
     let s = d .before .before .before .before .before .before .before in
     omega (arith, size s, d .put-difference .ensures .1)
 
@@ -46,40 +43,37 @@ add-put-terms c = search needs
 
 put-terms-requires : tie.Need-put-terms-requires
 put-terms-requires c κs =
-    let q = c .before .before .before .before .before .before in
-    let d = q .before .before .before .before .before in
+    let q = c .before .before .before in
+    let d = q .before .before .before .before in
     let s = d .before .before .before .before .before .before .before in
-    (omega (arith, size s, d .put-difference .ensures .1, q .put-powers .ensures .1 .0), (s .pre .1 .0, omega (arith, s .pre .1 .1), q .put-powers .ensures .1 .1))
+    (omega (arith, size s, d .put-difference .ensures .1, q .put-powers .ensures .1), s .pre .1)
 
 put-equal-requires : tie.Need-put-equal-requires
 put-equal-requires c κs =
     let t = c .before .before .before .before in
-    let q = t .before .before .before .before .before .before .before in
-    let d = q .before .before .before .before .before in
+    let q = t .before .before .before .before in
+    let d = q .before .before .before .before in
     let s = d .before .before .before .before .before .before .before in
-    omega (arith, size s, d .put-difference .ensures .1, q .put-powers .ensures .1 .0, t .put-terms .ensures .1 .0)
+    omega (arith, size s, d .put-difference .ensures .1, q .put-powers .ensures .1, t .put-terms .ensures .1 .0)
 
 same-length : tie.Need-same-length
 same-length c =
     let e = c .before .before in
     let t = e .before .before .before .before .before in
-    let q = t .before .before .before .before .before .before .before in
-    omega (arith, e, t, q, q .before .before .before .before .before)
-
-same-length-2 : tie.Need-same-length-2
-same-length-2 c = search needs
+    let q = t .before .before .before .before in
+    omega (arith, e, t, q, q .before .before .before .before)
 
 returns : tie.Need-returns
 returns c =
     let e = c .before .before in
     let t = e .before .before .before .before .before in
-    let q = t .before .before .before .before .before .before .before in
-    let d = q .before .before .before .before .before in
+    let q = t .before .before .before .before in
+    let d = q .before .before .before .before in
     let s = d .before .before .before .before .before .before .before in
     let a = s .args in (
       digit-wrote (a .p) (a .backward) (a .slots) (a .j) (d .put-difference .ensures .0) (d .put-difference .ensures .1 .0) (q .put-powers .ensures .0)
-          (q .put-powers .ensures .1 .0 .0) (t .put-terms .ensures .0) (e .put-equal .ensures .0),
-      (omega (arith, size s, d .put-difference .ensures .1, q .put-powers .ensures .1 .0, t .put-terms .ensures .1 .0), t .put-terms .ensures .1 .1 .1),
+          (q .put-powers .ensures .1 .0) (t .put-terms .ensures .0) (e .put-equal .ensures .0),
+      (omega (arith, size s, d .put-difference .ensures .1, q .put-powers .ensures .1, t .put-terms .ensures .1 .0), t .put-terms .ensures .1 .1 .1),
     )
 
 pub put-order-digit-spec : {M : Type 1} → statement M
@@ -95,5 +89,4 @@ put-order-digit-spec =
     put-terms-requires
     put-equal-requires
     same-length
-    same-length-2
     returns)

@@ -39,16 +39,16 @@ onward p three odd c k j next next′ here more =
     ∙ ap (digitStart p c k) (sym (add-one j))
 
 abbrev Inv-loop : tie.InvT-loop
-Inv-loop table₀ p backward slots constants depths₀ last₀ j₀ table depths last j =
+Inv-loop table₀ p backward slots constants depths last₀ j₀ table last j =
     let c = orderCondition backward slots in
     let k = last₀ .pen .next in
     (j ≤ slots .count) × (last .pen .next ≡ digitStart p c k j)
     × (last .pen .products ≤ last .pen .next) × (last .pen .squares ≤ last .pen .next) × (length table ≡ length table₀)
-    × (length depths ≡ length depths₀) × (1 ≤ j → last .node .depth ≡ clog (p - 1))
+    × (1 ≤ j → last .node .depth ≡ clog (p - 1))
     × Remains table₀ (last₀ .pen) (digitsFrom p c k (slots .count) 0) table (last .pen) (digitsFrom p c k (slots .count - j) j)
 
 abbrev μ-loop : tie.MeasureT-loop
-μ-loop table₀ p backward slots constants depths₀ last₀ j₀ table depths last j = slots .count - j
+μ-loop table₀ p backward slots constants depths last₀ j₀ table last j = slots .count - j
 
 loop-holds : tie.Need-loop-holds Inv-loop μ-loop
 loop-holds c =
@@ -61,17 +61,16 @@ loop-holds c =
       omega arith,
       omega arith,
       refl,
-      refl,
       λ some. absurd (omega arith),
       rw all remains-all,
     )
 
 put-order-digit-requires : tie.Need-put-order-digit-requires Inv-loop μ-loop
 put-order-digit-requires c κs =
-    let l = c .before .before .before .before in
+    let l = c .before .before .before in
     let s = l .before .before .before .before in
-    let room = fits (s .args .p) (orderCondition (s .args .backward) (s .args .slots)) (s .args .pen .next) (s .args .slots .count) (l .loop .j) (l .loop .last .pen .next) (omega arith) (l .loop .inv .1) (l .loop .inv .7 .number) in
-    (omega (arith, room, l .loop .inv, s .pre), (s .pre .1 .0, omega (arith, l .loop .inv .5, s .pre .1 .1)))
+    let room = fits (s .args .p) (orderCondition (s .args .backward) (s .args .slots)) (s .args .pen .next) (s .args .slots .count) (l .loop .j) (l .loop .last .pen .next) (omega arith) (l .loop .inv .1) (l .loop .inv .6 .number) in
+    (omega (arith, room, l .loop .inv, s .pre), s .pre .1)
 
 add-j : tie.Need-add-j Inv-loop μ-loop
 add-j c = search needs
@@ -81,8 +80,8 @@ loop-less c = search needs
 
 loop-again : tie.Need-loop-again Inv-loop μ-loop
 loop-again c =
-    let w = c .before .before .before .before in
-    let l = w .before .before .before .before .before in
+    let w = c .before .before in
+    let l = w .before .before .before .before in
     let s = l .before .before .before .before in
     let d = orderCondition (s .args .backward) (s .args .slots) in
     let e = w .put-order-digit .ensures in
@@ -92,16 +91,12 @@ loop-again c =
       omega (arith, e .1 .0),
       omega (arith, e .1 .0),
       omega (arith, l .loop .inv .4, w),
-      omega (arith, l .loop .inv .5, w),
       λ some. e .1 .1,
-      remains-then (remains-as (digits-cons (s .args .p) d (s .args .pen .next) (s .args .slots .count) (l .loop .j) (omega arith)) (l .loop .inv .7)) first,
+      remains-then (remains-as (digits-cons (s .args .p) d (s .args .pen .next) (s .args .slots .count) (l .loop .j) (omega arith)) (l .loop .inv .6)) first,
     )
 
 same-length : tie.Need-same-length Inv-loop μ-loop
 same-length c = c .before .before .loop .inv .4
-
-same-length-2 : tie.Need-same-length-2 Inv-loop μ-loop
-same-length-2 c = c .before .before .loop .inv .5
 
 returns : tie.Need-returns Inv-loop μ-loop
 unfolding digitsFrom
@@ -110,8 +105,8 @@ returns c =
     let s = l .before .before .before .before in
     let end : s .args .slots .count - l .loop .j ≡ 0 = omega arith in
     let d = orderCondition (s .args .backward) (s .args .slots) in
-    let rest = rw end at (l .loop .inv .7) in
-    (rest .gives _ _ none, (omega (arith, rest .number, l .loop .inv), l .loop .inv .6 (omega arith)))
+    let rest = rw end at (l .loop .inv .6) in
+    (rest .gives _ _ none, (omega (arith, rest .number, l .loop .inv), l .loop .inv .5 (omega arith)))
 
 pub put-order-digits-spec : {M : Type 1} → statement M
 put-order-digits-spec =
@@ -125,5 +120,4 @@ put-order-digits-spec =
     loop-less
     loop-again
     same-length
-    same-length-2
     returns)

@@ -125,7 +125,10 @@ cast-t25 : tie.Need-cast-t25 Inv-loop μ-loop
 cast-t25 c = search needs
 
 cost-of-requires : tie.Need-cost-of-requires Inv-loop μ-loop
-cost-of-requires c κs = search needs
+cost-of-requires c κs =
+    let l = c .before in
+    let s = l .before .before .before in
+    (omega (arith, l .loop .inv .0 .few, l .loop .inv .0 .most, s .pre .1), omega (arith, l .loop .inv .0 .few, l .loop .inv .0 .most, s .pre .1))
 
 sub-t27 : tie.Need-sub-t27 Inv-loop μ-loop
 sub-t27 c = search needs

@@ -1,4 +1,4 @@
--- `table::cost_of` meets its contract: a weight is a byte, so over 8191 gates the cost fits 32 bits.
+-- `table::cost_of` meets its contract: a weight is a byte, so with counts of 16 bits the cost fits 32.
 -- Assumes nothing.
 use Prim.Native.Nat.{ℕ, _*_, _≤_, _<_}
 use native.Mathlib.Omega.{arith}

@@ -1,0 +1,24 @@
+-- The listing of the first bench card, by computing the definitions.
+-- Assumes nothing.
+use mathlib.Core.Path.{refl}
+use Rattle.field.specs.Logarithm.{clog, flog}
+use Rattle.field.specs.Modular.{residue}
+use Rattle.field.specs.Polynomials.{orderConstants}
+use Rattle.field.specs.Primes.{primes, member, listed}
+use Rattle.field.specs.Sum.{sum, total}
+use Rattle.circuit.specs.Count.{count}
+use Rattle.circuit.specs.Meaning.{interpret}
+use Rattle.circuit.specs.ProductTree.{least, multiply}
+use Rattle.comparison.specs.Digits.{digitsFrom}
+use Rattle.comparison.specs.Joining.{halves, joinLowest}
+use Rattle.comparison.specs.OrderDigit.{ascending, powerGate, laterTerms}
+use Rattle.comparison.specs.Writing.{conditionSegment}
+use Rattle.query.specs.Reading.{readConditions}
+use Rattle.query.specs.Whole.{addAll}
+use Rattle.listing.specs.Bench.{FirstListing}
+use Rattle.listing.specs.Lines.{gateLines}
+use Rattle.listing.specs.Text.{spell, decimal}
+
+pub first-listing : FirstListing
+unfolding spell decimal gateLines orderConstants listed member primes sum readConditions total addAll conditionSegment digitsFrom ascending powerGate laterTerms halves joinLowest multiply least flog clog count interpret residue
+first-listing = refl

@@ -1,0 +1,9 @@
+-- Laws of listings.
+pub mod Text
+pub mod Putting
+pub mod Records
+pub mod Bench
+pub mod Listed
+pub mod LongCard
+pub mod Lengths
+pub mod Building

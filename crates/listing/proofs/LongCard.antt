@@ -1,0 +1,57 @@
+-- Input longer than any card is refused as its first bytes are: no rule before the seventh looks past the head,
+-- and whatever count the head has, neither length is a card's.
+-- Assumes nothing.
+use mathlib.Core.Path.{_≡_, refl, ap}
+use mathlib.Core.Bool.{Bool, true, false, not}
+use mathlib.Core.List.{List}
+use Prim.Native.Nat.{ℕ, _+_, _*_, _<_}
+use native.Mathlib.Omega.{arith}
+use borrow.Author.Tests.{le-ltb, ne-eqb}
+use lib.Dec.{eqb}
+use lib.ListN.{length, take}
+use lib.Seq.{length-take-le, getD-take}
+use Rattle.answer.specs.Outcome.{Answer, refused, refuse}
+use Rattle.field.specs.Primes.{listed}
+use Rattle.field.proofs.Tests.{in-range}
+use Rattle.circuit.specs.Bytes.{byte, wrongMark}
+use Rattle.circuit.specs.Table.{wrongWeight}
+use Rattle.query.specs.Card.{Card, cardMark, wrongConditionCount, mostConditions}
+use Rattle.query.specs.Reading.{readCard}
+use Rattle.listing.specs.Promises.{mostCard, LongCard}
+
+-- the sixth and the seventh rule
+abbrev counted : ℕ → ℕ → Answer Card → Answer Card
+counted size count later = refuse (wrongConditionCount count) (refused 6) (refuse (not (eqb size (6 + 4 * count))) (refused 7) later)
+
+-- two lengths that no card has
+counted-same : (size size′ count : ℕ) (later later′ : Answer Card) → mostCard < size → mostCard < size′
+    → counted size count later ≡ counted size′ count later′
+counted-same size size′ count later later′ l l′ = go (wrongConditionCount count) refl
+  where
+    go : (test : Bool) → wrongConditionCount count ≡ test → counted size count later ≡ counted size′ count later′
+    go true e = rw e
+    go false e =
+        let few = in-range count 1 mostConditions e in
+        rw (e, ne-eqb size (6 + 4 * count) (λ same. omega arith), ne-eqb size′ (6 + 4 * count) (λ same. omega arith))
+
+long-read : (bytes : List ℕ) → mostCard < length bytes → readCard (take (mostCard + 1) bytes) ≡ readCard bytes
+long-read bytes l =
+    rw (
+      length-take-le 39 bytes l,
+      le-ltb (length bytes) 6 (omega arith),
+      getD-take 39 bytes 0 0 (omega arith),
+      getD-take 39 bytes 1 0 (omega arith),
+      getD-take 39 bytes 2 0 (omega arith),
+      getD-take 39 bytes 3 0 (omega arith),
+      getD-take 39 bytes 4 0 (omega arith),
+      getD-take 39 bytes 5 0 (omega arith),
+    )
+    (ap (λ (later : Answer Card).
+    refuse (wrongMark cardMark bytes) (refused 2)
+    (refuse (not (listed (byte bytes 2))) (refused 3)
+    (refuse (wrongWeight (byte bytes 3)) (refused 4)
+    (refuse (not (eqb (byte bytes 5) 0)) (refused 5) later))))
+    (counted-same 39 (length bytes) (byte bytes 4) _ _ (omega arith) l))
+
+pub long-card : LongCard
+long-card bytes l = rw (long-read bytes l) (refl, refl)

@@ -1,0 +1,34 @@
+-- What the functions put that read a table's records and an answer's report.
+use Prim.Native.Nat.{ℕ, zero, suc}
+use mathlib.Core.List.{List, [], _++_}
+use lib.ListN.{drop}
+use Rattle.answer.specs.Outcome.{onAnswer}
+use Rattle.answer.specs.Report as answer
+use Rattle.answer.specs.declared.Report.{Report}
+use Rattle.circuit.specs.Bytes.{byte, u16At}
+use Rattle.circuit.specs.Gate.{gateOf}
+use Rattle.listing.specs.Lines.{lineOf}
+use Rattle.listing.specs.Words.{kindName}
+
+-- the name of a kind's gates
+abbrev pub nameOf : ℕ → List ℕ
+nameOf kind = onAnswer (gateOf kind 0 0) (λ number. []) kindName
+
+-- the line of gate number k, whose record the bytes begin with
+abbrev pub recordLine : ℕ → List ℕ → List ℕ
+recordLine k bytes = lineOf k (nameOf (byte bytes 2)) (u16At bytes 4) (u16At bytes 6)
+
+-- the lines of the next records, of which the first has number k
+unfoldable pub recordLines : ℕ → ℕ → List ℕ → List ℕ
+recordLines k zero bytes = []
+recordLines k (suc count) bytes = recordLine k bytes ++ recordLines (suc k) count (drop 8 bytes)
+
+-- the five numbers of a report
+abbrev pub countsOf : Report → answer.Report
+countsOf told = record {
+  gates = told .gates;
+  products = told .products;
+  squares = told .squares;
+  cost = told .cost .0;
+  depth = told .depth .0;
+}

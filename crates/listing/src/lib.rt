@@ -1,0 +1,147 @@
+// Listings: the lines that are printed of a card.
+use answer::Report;
+use answer::Reported;
+use table::RECORD;
+ghost use mathlib.Core.Path.{_≡_};
+ghost use Prim.Native.Nat.{_+_, _*_, _≤_};
+ghost use lib.ListN.{length, drop};
+ghost use lib.Seq.{sets};
+ghost use Rattle.circuit.specs.Table.{mostGates};
+ghost use Rattle.query.specs.Outcomes.{building};
+ghost use Rattle.listing.specs.Lines.{labelled, summaryLine, refusalLine};
+ghost use Rattle.listing.specs.Listing.{listing};
+ghost use Rattle.listing.specs.Promises.{mostListing};
+ghost use Rattle.listing.specs.Putting.{Puts, Fits};
+ghost use Rattle.listing.specs.Records.{nameOf, recordLine, recordLines, countsOf};
+ghost use Rattle.listing.specs.Text.{decimal};
+
+// The bytes of the longest card: a head of 6 and eight conditions of 4.
+pub const MOST_CARD: usize = 6 + 4 * 8;
+
+// The bytes of the longest table: a head and 8191 gates, of 8 each.
+pub const MOST_TABLE: usize = 8 * (8191 + 1);
+
+// The bytes of the longest listing: a summary of at most 61 and 8191 lines of at most 21.
+pub const MOST_LISTING: usize = 61 + 21 * 8191;
+
+// A text. This function and those below put one at a place of out, and answer the place after it.
+fn put_text(out: &mut [u8], at: usize, text: &[u8]) -> usize
+    requires { ⌜ Fits (now out) at (now text) ⌝ }
+    ensures { λ r. ⌜ Puts (now (out .entry)) at (now (text .entry)) (now (out .exit)) r ⌝ }
+{
+    let mut i = 0;
+    while i < text.len() {
+        out[at + i] = text[i];
+        i += 1;
+    }
+    at + i
+}
+
+// A number, in decimal digits.
+fn put_decimal(out: &mut [u8], at: usize, n: u32) -> usize
+    requires { ⌜ Fits (now out) at (decimal n) ⌝ }
+    ensures { λ r. ⌜ Puts (now (out .entry)) at (decimal n) (now (out .exit)) r ⌝ }
+{
+    if n < 10 {
+        out[at] = b'0' + n as u8;
+        return at + 1;
+    }
+    let last = put_decimal(out, at, n / 10);
+    out[last] = b'0' + (n % 10) as u8;
+    last + 1
+}
+
+// A word and a number.
+fn put_labelled(out: &mut [u8], at: usize, word: &[u8], n: u32) -> usize
+    requires { ⌜ Fits (now out) at (labelled (now word) n) ⌝ }
+    ensures { λ r. ⌜ Puts (now (out .entry)) at (labelled (now (word .entry)) n) (now (out .exit)) r ⌝ }
+{
+    let number = put_text(out, at, word);
+    put_decimal(out, number, n)
+}
+
+// The name of a kind.
+fn put_kind(out: &mut [u8], at: usize, kind: u8) -> usize
+    requires { ⌜ Fits (now out) at (nameOf kind) ⌝ }
+    ensures { λ r. ⌜ Puts (now (out .entry)) at (nameOf kind) (now (out .exit)) r ⌝ }
+{
+    match kind {
+        1 => put_text(out, at, b"LEFT"),
+        2 => put_text(out, at, b"RIGHT"),
+        3 => put_text(out, at, b"ADD"),
+        4 => put_text(out, at, b"SUB"),
+        5 => put_text(out, at, b"SCALE"),
+        6 => put_text(out, at, b"FLIP"),
+        7 => put_text(out, at, b"MUL"),
+        _ => at,
+    }
+}
+
+// The line of gate number k, whose record the bytes begin with.
+fn put_gate_line(out: &mut [u8], at: usize, k: u16, bytes: &[u8]) -> usize
+    requires { ⌜ (8 ≤ length (now bytes)) × Fits (now out) at (recordLine k (now bytes)) ⌝ }
+    ensures { λ r. ⌜ Puts (now (out .entry)) at (recordLine k (now (bytes .entry))) (now (out .exit)) r ⌝ }
+{
+    let a = table::u16_at(bytes, 4) as u32;
+    let b = table::u16_at(bytes, 6) as u32;
+    let space = put_decimal(out, at, k as u32);
+    let kind = put_text(out, space, b" ");
+    let first = put_kind(out, kind, bytes[2]);
+    let second = put_labelled(out, first, b" ", a);
+    let end = put_labelled(out, second, b" ", b);
+    put_text(out, end, b"\n")
+}
+
+// The lines of the first count gates of a table.
+fn put_gate_lines(out: &mut [u8], at: usize, table: &[u8], count: u16) -> usize
+    requires { ⌜ (8 * (count + 1) ≤ length (now table)) × Fits (now out) at (recordLines 0 count (drop 8 (now table))) ⌝ }
+    ensures { λ r. ⌜ Puts (now (out .entry)) at (recordLines 0 count (drop 8 (now (table .entry)))) (now (out .exit)) r ⌝ }
+{
+    let mut end = at;
+    let mut k: u16 = 0;
+    while k < count {
+        let start = RECORD * (k as usize + 1);
+        end = put_gate_line(out, end, k, &table[start..]);
+        k += 1;
+    }
+    end
+}
+
+// The counts of a table, in a line.
+fn put_summary(out: &mut [u8], at: usize, told: Report) -> usize
+    requires { ⌜ Fits (now out) at (summaryLine (countsOf told)) ⌝ }
+    ensures { λ r. ⌜ Puts (now (out .entry)) at (summaryLine (countsOf told)) (now (out .exit)) r ⌝ }
+{
+    let products = put_labelled(out, at, b"gates ", told.gates as u32);
+    let squares = put_labelled(out, products, b" products ", told.products as u32);
+    let cost = put_labelled(out, squares, b" squares ", told.squares as u32);
+    let depth = put_labelled(out, cost, b" cost ", told.cost.0);
+    let end = put_labelled(out, depth, b" depth ", told.depth.0 as u32);
+    put_text(out, end, b"\n")
+}
+
+// The line of a refusal, by its number.
+fn put_refusal(out: &mut [u8], at: usize, number: u8) -> usize
+    requires { ⌜ Fits (now out) at (refusalLine number) ⌝ }
+    ensures { λ r. ⌜ Puts (now (out .entry)) at (refusalLine number) (now (out .exit)) r ⌝ }
+{
+    let end = put_labelled(out, at, b"refused ", number as u32);
+    put_text(out, end, b"\n")
+}
+
+// Puts the listing of a card at the start of text and answers its length. The table is built in the
+// other lent bytes.
+pub fn list_card(card: &[u8], table: &mut [u8], text: &mut [u8]) -> usize
+    requires { ⌜ (8 * (mostGates + 1) ≤ length (now table)) × (mostListing ≤ length (now text)) ⌝ }
+    ensures puts { λ r. ⌜ now (text .exit) ≡ sets (now (text .entry)) 0 (listing (now (card .entry))) ⌝ }
+    ensures ends { λ r. ⌜ r ≡ length (listing (now (card .entry))) ⌝ }
+    ensures leaves { λ r. ⌜ now (table .exit) ≡ building (now (card .entry)) (now (table .entry)) .lent ⌝ }
+{
+    match builder::build(card, table) {
+        Reported::Success(told) => {
+            let at = put_summary(text, 0, told);
+            put_gate_lines(text, at, table, told.gates)
+        }
+        Reported::Refused(why) => put_refusal(text, 0, answer::refusal_number(why)),
+    }
+}

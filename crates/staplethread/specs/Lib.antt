@@ -1,0 +1,2 @@
+-- What programs in Rust and C are told.
+pub mod Told

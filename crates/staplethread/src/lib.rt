@@ -1,0 +1,181 @@
+// The operations for programs in Rust and C, over numbers and bytes. Each answers 0 on success and
+// on success only, else the number of its refusal, which leaves every lent number and byte as it was.
+// Trim turns nothing away and answers a length.
+use answer::Reported;
+use digits::Decoded;
+use digits::Encoded;
+use table::Ran;
+ghost use mathlib.Core.Path.{_≡_};
+ghost use lib.Dec.{eqb};
+ghost use lib.ListN.{length, take};
+ghost use Rattle.answer.specs.Outcome.{refusalIn};
+ghost use Rattle.answer.specs.Report.{reportAnswer};
+ghost use Rattle.digits.specs.Encoding.{encoding};
+ghost use Rattle.digits.specs.Decoding.{decoding};
+ghost use Rattle.circuit.specs.Outcomes.{checking, trimming, running};
+ghost use Rattle.query.specs.Outcomes.{building, forecasting};
+ghost use Rattle.staplethread.specs.Told.{isAccepted, numberAfter, gatesAfter, productsAfter, squaresAfter, costAfter, depthAfter};
+
+// Encode: writes number as n digits at the start of out.
+#[no_mangle]
+pub extern "C" fn staplethread_encode(p: u8, n: usize, number: u64, out: &mut [u8]) -> u8
+    ensures status { λ r. ⌜ r ≡ refusalIn (encoding p n number (now (out .entry)) .answer) ⌝ }
+    ensures success { λ r. ⌜ eqb r 0 ≡ isAccepted (encoding p n number (now (out .entry)) .answer) ⌝ }
+    ensures leaves { λ _. ⌜ now (out .exit) ≡ encoding p n number (now (out .entry)) .lent ⌝ }
+{
+    match digits::encode(p, n, number, out) {
+        Encoded::Done => 0,
+        Encoded::Refused(why) => answer::refusal_number(why),
+    }
+}
+
+// Decode: the number that the digits stand for.
+#[no_mangle]
+pub extern "C" fn staplethread_decode(p: u8, digits: &[u8], number: &mut u64) -> u8
+    ensures status { λ r. ⌜ r ≡ refusalIn (decoding p (now (digits .entry))) ⌝ }
+    ensures success { λ r. ⌜ eqb r 0 ≡ isAccepted (decoding p (now (digits .entry))) ⌝ }
+    ensures told { λ _. ⌜ now (number .exit) ≡ numberAfter (now (number .entry)) (decoding p (now (digits .entry))) ⌝ }
+{
+    match digits::decode(p, digits) {
+        Decoded::Number(sum) => {
+            *number = sum;
+            0
+        }
+        Decoded::Refused(why) => answer::refusal_number(why),
+    }
+}
+
+// Tells the report, or only the number of the refusal.
+fn put_report(
+    told: Reported,
+    gates: &mut u16,
+    products: &mut u16,
+    squares: &mut u16,
+    cost: &mut u32,
+    depth: &mut u16,
+) -> u8
+    ensures status { λ r. ⌜ r ≡ refusalIn (reportAnswer told) ⌝ }
+    ensures success { λ r. ⌜ eqb r 0 ≡ isAccepted (reportAnswer told) ⌝ }
+    ensures gates { λ _. ⌜ now (gates .exit) ≡ gatesAfter (now (gates .entry)) (reportAnswer told) ⌝ }
+    ensures products { λ _. ⌜ now (products .exit) ≡ productsAfter (now (products .entry)) (reportAnswer told) ⌝ }
+    ensures squares { λ _. ⌜ now (squares .exit) ≡ squaresAfter (now (squares .entry)) (reportAnswer told) ⌝ }
+    ensures cost { λ _. ⌜ now (cost .exit) ≡ costAfter (now (cost .entry)) (reportAnswer told) ⌝ }
+    ensures depth { λ _. ⌜ now (depth .exit) ≡ depthAfter (now (depth .entry)) (reportAnswer told) ⌝ }
+{
+    match told {
+        Reported::Success(report) => {
+            *gates = report.gates;
+            *products = report.products;
+            *squares = report.squares;
+            *cost = report.cost.0;
+            *depth = report.depth.0;
+            0
+        }
+        Reported::Refused(why) => answer::refusal_number(why),
+    }
+}
+
+// Check: the report on a table.
+#[no_mangle]
+pub extern "C" fn staplethread_check(
+    table: &[u8],
+    gates: &mut u16,
+    products: &mut u16,
+    squares: &mut u16,
+    cost: &mut u32,
+    depth: &mut u16,
+) -> u8
+    ensures status { λ r. ⌜ r ≡ refusalIn (checking (now (table .entry))) ⌝ }
+    ensures success { λ r. ⌜ eqb r 0 ≡ isAccepted (checking (now (table .entry))) ⌝ }
+    ensures gates { λ _. ⌜ now (gates .exit) ≡ gatesAfter (now (gates .entry)) (checking (now (table .entry))) ⌝ }
+    ensures products { λ _. ⌜ now (products .exit) ≡ productsAfter (now (products .entry)) (checking (now (table .entry))) ⌝ }
+    ensures squares { λ _. ⌜ now (squares .exit) ≡ squaresAfter (now (squares .entry)) (checking (now (table .entry))) ⌝ }
+    ensures cost { λ _. ⌜ now (cost .exit) ≡ costAfter (now (cost .entry)) (checking (now (table .entry))) ⌝ }
+    ensures depth { λ _. ⌜ now (depth .exit) ≡ depthAfter (now (depth .entry)) (checking (now (table .entry))) ⌝ }
+{
+    put_report(table::check(table), gates, products, squares, cost, depth)
+}
+
+// Trim: how many bytes from the start the part has that is handed back.
+#[no_mangle]
+pub extern "C" fn staplethread_trim(table: &[u8]) -> usize
+    ensures counts { λ r. ⌜ r ≡ length (trimming (now (table .entry))) ⌝ }
+    ensures part { λ r. ⌜ take r (now (table .entry)) ≡ trimming (now (table .entry)) ⌝ }
+{
+    let part = table::trim(table);
+    part.len()
+}
+
+// Run: the values of all gates at the start of work, and the last of them as the output.
+#[no_mangle]
+pub extern "C" fn staplethread_run(
+    table: &[u8],
+    left: &[u8],
+    right: &[u8],
+    work: &mut [u8],
+    output: &mut u8,
+) -> u8
+    ensures status { λ r. ⌜ r ≡ refusalIn (running (now (table .entry)) (now (left .entry)) (now (right .entry)) (now (work .entry)) .answer) ⌝ }
+    ensures success { λ r. ⌜ eqb r 0 ≡ isAccepted (running (now (table .entry)) (now (left .entry)) (now (right .entry)) (now (work .entry)) .answer) ⌝ }
+    ensures leaves { λ _. ⌜ now (work .exit) ≡ running (now (table .entry)) (now (left .entry)) (now (right .entry)) (now (work .entry)) .lent ⌝ }
+    ensures told { λ _. ⌜ now (output .exit) ≡ numberAfter (now (output .entry)) (running (now (table .entry)) (now (left .entry)) (now (right .entry)) (now (work .entry)) .answer) ⌝ }
+{
+    match table::run(table, left, right, work) {
+        Ran::Output(value) => {
+            *output = value;
+            0
+        }
+        Ran::Refused(why) => answer::refusal_number(why),
+    }
+}
+
+// Forecast: the report on the table of a card, from the card only.
+#[no_mangle]
+pub extern "C" fn staplethread_forecast(
+    card: &[u8],
+    gates: &mut u16,
+    products: &mut u16,
+    squares: &mut u16,
+    cost: &mut u32,
+    depth: &mut u16,
+) -> u8
+    ensures status { λ r. ⌜ r ≡ refusalIn (forecasting (now (card .entry))) ⌝ }
+    ensures success { λ r. ⌜ eqb r 0 ≡ isAccepted (forecasting (now (card .entry))) ⌝ }
+    ensures gates { λ _. ⌜ now (gates .exit) ≡ gatesAfter (now (gates .entry)) (forecasting (now (card .entry))) ⌝ }
+    ensures products { λ _. ⌜ now (products .exit) ≡ productsAfter (now (products .entry)) (forecasting (now (card .entry))) ⌝ }
+    ensures squares { λ _. ⌜ now (squares .exit) ≡ squaresAfter (now (squares .entry)) (forecasting (now (card .entry))) ⌝ }
+    ensures cost { λ _. ⌜ now (cost .exit) ≡ costAfter (now (cost .entry)) (forecasting (now (card .entry))) ⌝ }
+    ensures depth { λ _. ⌜ now (depth .exit) ≡ depthAfter (now (depth .entry)) (forecasting (now (card .entry))) ⌝ }
+{
+    put_report(card::forecast(card), gates, products, squares, cost, depth)
+}
+
+// Build: the table of a card at the start of the lent bytes, and the report on it.
+#[no_mangle]
+pub extern "C" fn staplethread_build(
+    card: &[u8],
+    table: &mut [u8],
+    gates: &mut u16,
+    products: &mut u16,
+    squares: &mut u16,
+    cost: &mut u32,
+    depth: &mut u16,
+) -> u8
+    ensures status { λ r. ⌜ r ≡ refusalIn (building (now (card .entry)) (now (table .entry)) .answer) ⌝ }
+    ensures success { λ r. ⌜ eqb r 0 ≡ isAccepted (building (now (card .entry)) (now (table .entry)) .answer) ⌝ }
+    ensures leaves { λ _. ⌜ now (table .exit) ≡ building (now (card .entry)) (now (table .entry)) .lent ⌝ }
+    ensures gates { λ _. ⌜ now (gates .exit) ≡ gatesAfter (now (gates .entry)) (building (now (card .entry)) (now (table .entry)) .answer) ⌝ }
+    ensures products { λ _. ⌜ now (products .exit) ≡ productsAfter (now (products .entry)) (building (now (card .entry)) (now (table .entry)) .answer) ⌝ }
+    ensures squares { λ _. ⌜ now (squares .exit) ≡ squaresAfter (now (squares .entry)) (building (now (card .entry)) (now (table .entry)) .answer) ⌝ }
+    ensures cost { λ _. ⌜ now (cost .exit) ≡ costAfter (now (cost .entry)) (building (now (card .entry)) (now (table .entry)) .answer) ⌝ }
+    ensures depth { λ _. ⌜ now (depth .exit) ≡ depthAfter (now (depth .entry)) (building (now (card .entry)) (now (table .entry)) .answer) ⌝ }
+{
+    put_report(
+        builder::build(card, table),
+        gates,
+        products,
+        squares,
+        cost,
+        depth,
+    )
+}

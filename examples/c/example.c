@@ -1,0 +1,85 @@
+/* Which stretches have a distance of at least 20 m and a grade worse than 3?
+ *
+ * Build it with the static library, from the top of the repository:
+ *
+ *     rt staticlib staplethread
+ *     gcc -std=c99 -Wall -Wextra -Wpedantic -Iinclude examples/c/example.c \
+ *         -Ltarget/staticlib -lstaplethread -o target/example
+ */
+#include <stdio.h>
+#include <stdlib.h>
+
+#include "staplethread.h"
+
+/* p = 31, so a digit is below B = 16. */
+enum { PRIME = 31, WEIGHT = 75, DISTANCE_DIGITS = 3, GRADE_DIGITS = 1, SLOTS = 4 };
+
+static const uint8_t card[] = {
+    0xC5, 0x48, PRIME, WEIGHT, 2, 0,
+    0xC5, 0x51, 4, DISTANCE_DIGITS, /* distance >= .. */
+    0xC5, 0x51, 3, GRADE_DIGITS,    /* grade > .. */
+};
+
+/* Ends the program where an operation refused. */
+static void expect(const char *operation, uint8_t status)
+{
+    if (status != 0) {
+        fprintf(stderr, "%s refused %u\n", operation, (unsigned)status);
+        exit(1);
+    }
+}
+
+/* Distance in metres (up to 4095) and grade (up to 15), as the slots of one side. */
+static void encode(uint64_t distance, uint64_t grade, uint8_t slots[SLOTS])
+{
+    expect("encode", staplethread_encode(PRIME, DISTANCE_DIGITS, distance, slots, SLOTS));
+    expect("encode", staplethread_encode(PRIME, GRADE_DIGITS, grade, slots + DISTANCE_DIGITS,
+                                         SLOTS - DISTANCE_DIGITS));
+}
+
+static void print_report(const char *operation, staplethread_report report)
+{
+    printf("%s: gates %u products %u squares %u cost %lu depth %u\n", operation,
+           (unsigned)report.gates, (unsigned)report.products, (unsigned)report.squares,
+           (unsigned long)report.cost.hundredths, (unsigned)report.depth.levels);
+}
+
+int main(void)
+{
+    static const struct { uint64_t distance, grade; } records[] = { { 34, 4 }, { 12, 5 } };
+    staplethread_report report;
+    uint8_t query[SLOTS];
+    size_t table_length, i;
+    uint8_t *table, *work;
+
+    expect("forecast", staplethread_forecast_report(card, sizeof card, &report));
+    print_report("forecast", report);
+
+    table_length = 8 * ((size_t)report.gates + 1);
+    table = malloc(table_length);
+    work = malloc(report.gates);
+    if (table == NULL || work == NULL) {
+        fputs("no memory\n", stderr);
+        return 1;
+    }
+
+    expect("build", staplethread_build_report(card, sizeof card, table, table_length, &report));
+    print_report("build", report);
+    expect("check", staplethread_check_report(table, table_length, &report));
+    print_report("check", report);
+
+    encode(20, 3, query);
+    for (i = 0; i < sizeof records / sizeof records[0]; i++) {
+        uint8_t record[SLOTS], bit;
+
+        encode(records[i].distance, records[i].grade, record);
+        expect("run", staplethread_run(table, table_length, record, SLOTS, query, SLOTS,
+                                       work, report.gates, &bit));
+        printf("distance %lu m, grade %lu: %u, at depth %u\n", (unsigned long)records[i].distance,
+               (unsigned long)records[i].grade, (unsigned)bit, (unsigned)report.depth.levels);
+    }
+
+    free(work);
+    free(table);
+    return 0;
+}

@@ -1,0 +1,164 @@
+/* Staplethread for C and C++: query cards, gate tables and digits.
+ *
+ * The rules are those of document 01, "The query builder and its exact rules".
+ *
+ * A list of bytes is a pointer, then its length in bytes. Pointers are not null, not even those of
+ * empty lists. What a call writes overlaps nothing else that is lent to it. Nothing is kept after a
+ * call, nothing is allocated, and calls on separate buffers may run at the same time.
+ *
+ * Every operation but Trim answers 0 on success, or the number of its refusal. A refusal leaves
+ * every lent byte and number unaltered. Where several rules are broken, the number is that of the
+ * first one in the order given here.
+ */
+#ifndef STAPLETHREAD_H
+#define STAPLETHREAD_H
+
+#include <stddef.h>
+#include <stdint.h>
+
+#ifdef __cplusplus
+extern "C" {
+#endif
+
+/* A depth counts levels, a cost counts hundredths. Types of their own, so that neither is taken for
+ * the other. */
+typedef struct staplethread_depth {
+    uint16_t levels;
+} staplethread_depth;
+
+typedef struct staplethread_cost {
+    uint32_t hundredths;
+} staplethread_cost;
+
+/* What Build, Forecast and Check answer: the gate count G, the products, the squares, the cost (100
+ * times the products plus s times the squares) and the depth. */
+typedef struct staplethread_report {
+    uint16_t gates;
+    uint16_t products;
+    uint16_t squares;
+    staplethread_cost cost;
+    staplethread_depth depth;
+} staplethread_report;
+
+/* ---- Numbers as digits, each below B = (p+1)/2, lowest first */
+
+/* Encode: fills the first n bytes of out with the digits of number, and no later one.
+ *  3  p not one of the odd primes from 3 to 251
+ *  9  n not 1 to 16
+ * 21  out under n bytes
+ * 22  number not below B^n */
+uint8_t staplethread_encode(uint8_t p, size_t n, uint64_t number, uint8_t *out, size_t out_length);
+
+/* Decode: the number that the digits stand for.
+ *  3  p not one of the odd primes from 3 to 251
+ *  9  list length not 1 to 16
+ * 23  a digit of B or more
+ * 24  number above 2^64-1 */
+uint8_t staplethread_decode(uint8_t p, const uint8_t *digits, size_t digits_length,
+                            uint64_t *number);
+
+/* ---- Cards
+ *
+ * Head, 6 bytes: mark 0xC5 0x48, p, weight s (hundredths, 50 to 100), condition count c (1 to 8),
+ * spare 0. Then c condition records of 4 bytes: mark 0xC5 0x51, relation, n (1 to 16). The digits of
+ * all conditions together, N, are at most 16. Relations between left (record) and right (query):
+ * 1 <, 2 <=, 3 >, 4 >=, 5 =, 6 not equal. Each condition takes the next n slots on both sides.
+ */
+
+/* Forecast: the report on the card's table, from the card only.
+ *  1  card under 6 bytes
+ *  2  head mark
+ *  3  p not one of the odd primes from 3 to 251
+ *  4  s not 50 to 100
+ *  5  spare not 0
+ *  6  c not 1 to 8
+ *  7  length not 6+4c
+ *     then by condition
+ *  2  mark
+ *  8  relation not 1 to 6
+ *  9  n not 1 to 16
+ *     then
+ * 10  N over 16 */
+uint8_t staplethread_forecast(const uint8_t *card, size_t card_length,
+                              uint16_t *gates, uint16_t *products, uint16_t *squares,
+                              uint32_t *cost, uint16_t *depth);
+
+/* Build: fills exactly the first 8(G+1) bytes of table with the card's table, and no later one.
+ * Refuses as Forecast does, and last
+ * 11  table lent under 8(G+1) bytes */
+uint8_t staplethread_build(const uint8_t *card, size_t card_length,
+                           uint8_t *table, size_t table_length,
+                           uint16_t *gates, uint16_t *products, uint16_t *squares,
+                           uint32_t *cost, uint16_t *depth);
+
+/* ---- Gate tables
+ *
+ * A table has 8(G+1) bytes. Later bytes are not looked at.
+ */
+
+/* Check: the report on a table.
+ * 12  under 8 bytes
+ *  2  head mark
+ *  3  p not one of the odd primes from 3 to 251
+ *  4  s not 50 to 100
+ * 13  N not 1 to 16
+ *  5  spare not 0
+ * 14  G not 1 to 8191
+ * 15  under 8(G+1) bytes
+ *     then by gate
+ *  2  mark
+ *  5  spare not 0
+ * 16  kind not 1 to 7
+ * 17  an operand against its kind */
+uint8_t staplethread_check(const uint8_t *table, size_t table_length,
+                           uint16_t *gates, uint16_t *products, uint16_t *squares,
+                           uint32_t *cost, uint16_t *depth);
+
+/* Trim: how many of the lent bytes, from the start, are the table: 8(G+1), or 0 where Check refuses.
+ * Trim itself turns nothing away. */
+size_t staplethread_trim(const uint8_t *table, size_t table_length);
+
+/* Run: the table on a record (left) and a query (right), in the clear. The first G bytes of work then
+ * hold the gate values, later ones are kept; output is the last gate's.
+ * Refuses as Check does, then
+ * 18  left or right list not N long
+ * 19  a value of p or more
+ * 20  work under G bytes */
+uint8_t staplethread_run(const uint8_t *table, size_t table_length,
+                         const uint8_t *left, size_t left_length,
+                         const uint8_t *right, size_t right_length,
+                         uint8_t *work, size_t work_length,
+                         uint8_t *output);
+
+/* ---- The same with a report */
+
+static inline uint8_t staplethread_forecast_report(const uint8_t *card, size_t card_length,
+                                                   staplethread_report *report)
+{
+    return staplethread_forecast(card, card_length,
+                                 &report->gates, &report->products, &report->squares,
+                                 &report->cost.hundredths, &report->depth.levels);
+}
+
+static inline uint8_t staplethread_build_report(const uint8_t *card, size_t card_length,
+                                                uint8_t *table, size_t table_length,
+                                                staplethread_report *report)
+{
+    return staplethread_build(card, card_length, table, table_length,
+                              &report->gates, &report->products, &report->squares,
+                              &report->cost.hundredths, &report->depth.levels);
+}
+
+static inline uint8_t staplethread_check_report(const uint8_t *table, size_t table_length,
+                                                staplethread_report *report)
+{
+    return staplethread_check(table, table_length,
+                              &report->gates, &report->products, &report->squares,
+                              &report->cost.hundredths, &report->depth.levels);
+}
+
+#ifdef __cplusplus
+}
+#endif
+
+#endif

@@ -1,0 +1,156 @@
+//! Times the proved library against the second program, both built for release, on the same
+//! inputs in one run, and prints a table of ratios. No buffer is cleared between calls.
+
+use second::card::card_bytes;
+use std::hint::black_box;
+use std::time::Instant;
+
+/// Turns that each side takes; the best of each counts.
+const TURNS: usize = 60;
+
+/// Gates that one turn works on, about, so that a turn is long enough for the clock.
+const GATES_A_TURN: usize = 200_000;
+
+struct Row {
+    operation: &'static str,
+    card: &'static str,
+    library: f64,
+    plain: f64,
+}
+
+/// Has a call's answer computed, though nobody reads it.
+fn keep<T>(answer: T) {
+    black_box(answer);
+}
+
+/// The time of one call in nanoseconds, over `calls` calls.
+fn time(calls: usize, call: &mut dyn FnMut()) -> f64 {
+    let start = Instant::now();
+    for _ in 0..calls {
+        call();
+    }
+    start.elapsed().as_nanos() as f64 / calls as f64
+}
+
+/// Both sides in turn, so that a disturbance meets both; the best of each.
+fn compare(calls: usize, library: &mut dyn FnMut(), plain: &mut dyn FnMut()) -> (f64, f64) {
+    let (mut first, mut second) = (f64::MAX, f64::MAX);
+    for _ in 0..TURNS {
+        first = first.min(time(calls, library));
+        second = second.min(time(calls, plain));
+    }
+    (first, second)
+}
+
+fn rows(name: &'static str, card: &[u8]) -> Vec<Row> {
+    let report = staplethread::forecast(card).expect("the card is accepted");
+    let gates = usize::from(report.gates);
+    let calls = GATES_A_TURN / (gates + 20);
+    let mut ours = vec![0; report.table_bytes()];
+    let mut theirs = ours.clone();
+    let build = compare(
+        calls,
+        &mut || keep(staplethread::build(black_box(card), &mut ours)),
+        &mut || keep(second::build(black_box(card), &mut theirs)),
+    );
+    assert_eq!(ours, theirs);
+    let forecast = compare(
+        calls * 4,
+        &mut || keep(staplethread::forecast(black_box(card))),
+        &mut || keep(second::forecast(black_box(card))),
+    );
+    let table = ours;
+    let check = compare(
+        calls,
+        &mut || keep(staplethread::check(black_box(&table))),
+        &mut || keep(second::check(black_box(&table))),
+    );
+    let slots = usize::from(table[4]);
+    let (left, right) = (vec![1; slots], vec![0; slots]);
+    let (mut work, mut values) = (vec![0; gates], vec![0; gates]);
+    let run = compare(
+        calls,
+        &mut || {
+            keep(staplethread::run(
+                black_box(&table),
+                &left,
+                &right,
+                &mut work,
+            ))
+        },
+        &mut || keep(second::run(black_box(&table), &left, &right, &mut values)),
+    );
+    assert_eq!(work, values);
+    [
+        ("Build", build),
+        ("Forecast", forecast),
+        ("Check", check),
+        ("Run", run),
+    ]
+    .into_iter()
+    .map(|(operation, (library, plain))| Row {
+        operation,
+        card: name,
+        library,
+        plain,
+    })
+    .collect()
+}
+
+/// Build against a plain copy of the table's bytes.
+fn copy_row(name: &'static str, card: &[u8]) -> Row {
+    let report = staplethread::forecast(card).expect("the card is accepted");
+    let mut table = vec![0; report.table_bytes()];
+    let mut source = table.clone();
+    staplethread::build(card, &mut source).expect("it has room");
+    let mut copy = table.clone();
+    let calls = GATES_A_TURN / (usize::from(report.gates) + 20);
+    let (library, plain) = compare(
+        calls,
+        &mut || keep(staplethread::build(black_box(card), &mut table)),
+        &mut || {
+            copy.copy_from_slice(black_box(&source));
+            black_box(&mut copy);
+        },
+    );
+    Row {
+        operation: "Build, against a copy",
+        card: name,
+        library,
+        plain,
+    }
+}
+
+fn main() {
+    let cards = [
+        ("first bench card", card_bytes(3, 75, &[(1, 1)])),
+        (
+            "p=31, >= of 3, > of 1, = of 2",
+            card_bytes(31, 80, &[(4, 3), (3, 1), (5, 2)]),
+        ),
+        ("p=251, < of 16", card_bytes(251, 100, &[(1, 16)])),
+    ];
+    println!(
+        "Both built for release; best of {TURNS} turns each; buffers not cleared between calls."
+    );
+    println!();
+    println!("| operation | card | gates | library, ns | plain Rust, ns | ratio |");
+    println!("|---|---|---|---|---|---|");
+    for (name, card) in &cards {
+        let mut lines = rows(name, card);
+        if *name == cards[cards.len() - 1].0 {
+            lines.push(copy_row(name, card));
+        }
+        let gates = staplethread::forecast(card).expect("accepted").gates;
+        for row in lines {
+            println!(
+                "| {} | {} | {gates} | {:.0} | {:.0} | {:.2} |",
+                row.operation,
+                row.card,
+                row.library,
+                row.plain,
+                row.library / row.plain
+            );
+        }
+    }
+}

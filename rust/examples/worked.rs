@@ -1,0 +1,37 @@
+//! "Distance at least 20 m, grade worse than 3": a question, its table, and the answer for two
+//! records. Plain digits stand where the runner has ciphertexts.
+
+use staplethread::{build, encode, forecast, run, Refusal};
+
+/// B = 16: a distance of up to 4,095 m takes three digits, a grade one.
+const P: u8 = 31;
+const DISTANCE_DIGITS: usize = 3;
+const GRADE_DIGITS: usize = 1;
+
+/// Left at least right for the distance (relation 4), left above right for the grade (3).
+const CARD: [u8; 14] = [0xC5, 0x48, P, 75, 2, 0, 0xC5, 0x51, 4, 3, 0xC5, 0x51, 3, 1];
+
+/// The slots of one side: the distance's digits, then the grade's.
+fn slots(distance: u64, grade: u64) -> Result<[u8; 4], Refusal> {
+    let mut digits = [0; DISTANCE_DIGITS + GRADE_DIGITS];
+    encode(P, DISTANCE_DIGITS, distance, &mut digits[..DISTANCE_DIGITS])?;
+    encode(P, GRADE_DIGITS, grade, &mut digits[DISTANCE_DIGITS..])?;
+    Ok(digits)
+}
+
+fn main() -> Result<(), Refusal> {
+    let report = forecast(&CARD)?;
+    println!(
+        "depth {} levels, cost {} hundredths",
+        report.depth.0, report.cost.0
+    );
+    let mut table = vec![0; report.table_bytes()];
+    build(&CARD, &mut table)?;
+    let mut work = vec![0; usize::from(report.gates)];
+    let query = slots(20, 3)?;
+    for (distance, grade) in [(34, 4), (12, 5)] {
+        let bit = run(&table, &slots(distance, grade)?, &query, &mut work)?;
+        println!("distance {distance} m, grade {grade}: {bit}");
+    }
+    Ok(())
+}

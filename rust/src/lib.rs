@@ -1,0 +1,199 @@
+//! The query builder for encrypted records: seven operations of a proved library, called safely.
+//!
+//! Every function answers for all inputs. A refusal is the rules' number and nothing else, and
+//! leaves every lent byte as it was.
+//!
+//! Each `unsafe` call is sound: a slice is passed as its pointer and its length, no reference is
+//! null, and Rust keeps what is lent for writing apart from everything else.
+
+use std::fmt;
+
+mod exports;
+
+/// Levels of products.
+#[derive(Clone, Copy, Debug, PartialEq, Eq, PartialOrd, Ord)]
+pub struct Depth(pub u16);
+
+/// Hundredths of a product.
+#[derive(Clone, Copy, Debug, PartialEq, Eq, PartialOrd, Ord)]
+pub struct Cost(pub u32);
+
+/// What Build, Forecast and Check tell of a table.
+#[derive(Clone, Copy, Debug, PartialEq, Eq)]
+pub struct Report {
+    pub gates: u16,
+    pub products: u16,
+    pub squares: u16,
+    pub cost: Cost,
+    pub depth: Depth,
+}
+
+impl Report {
+    /// How many bytes the table has: a record for the head and for each gate.
+    pub fn table_bytes(&self) -> usize {
+        8 * (usize::from(self.gates) + 1)
+    }
+
+    /// A report to be lent.
+    const BLANK: Report = Report {
+        gates: 0,
+        products: 0,
+        squares: 0,
+        cost: Cost(0),
+        depth: Depth(0),
+    };
+}
+
+/// Why an operation turns its input away, by the rules' number.
+#[derive(Clone, Copy, Debug, PartialEq, Eq)]
+pub struct Refusal(pub u8);
+
+impl fmt::Display for Refusal {
+    fn fmt(&self, f: &mut fmt::Formatter<'_>) -> fmt::Result {
+        write!(f, "refused {}", self.0)
+    }
+}
+
+impl std::error::Error for Refusal {}
+
+/// An answer by the status of its call: 0 is success.
+fn accepted<T>(status: u8, answer: T) -> Result<T, Refusal> {
+    match status {
+        0 => Ok(answer),
+        number => Err(Refusal(number)),
+    }
+}
+
+fn build_into(card: &[u8], table: &mut [u8], told: &mut Report) -> u8 {
+    unsafe {
+        exports::staplethread_build(
+            card.as_ptr(),
+            card.len(),
+            table.as_mut_ptr(),
+            table.len(),
+            &mut told.gates,
+            &mut told.products,
+            &mut told.squares,
+            &mut told.cost.0,
+            &mut told.depth.0,
+        )
+    }
+}
+
+fn forecast_into(card: &[u8], told: &mut Report) -> u8 {
+    unsafe {
+        exports::staplethread_forecast(
+            card.as_ptr(),
+            card.len(),
+            &mut told.gates,
+            &mut told.products,
+            &mut told.squares,
+            &mut told.cost.0,
+            &mut told.depth.0,
+        )
+    }
+}
+
+fn check_into(table: &[u8], told: &mut Report) -> u8 {
+    unsafe {
+        exports::staplethread_check(
+            table.as_ptr(),
+            table.len(),
+            &mut told.gates,
+            &mut told.products,
+            &mut told.squares,
+            &mut told.cost.0,
+            &mut told.depth.0,
+        )
+    }
+}
+
+fn run_into(table: &[u8], left: &[u8], right: &[u8], work: &mut [u8], output: &mut u8) -> u8 {
+    unsafe {
+        exports::staplethread_run(
+            table.as_ptr(),
+            table.len(),
+            left.as_ptr(),
+            left.len(),
+            right.as_ptr(),
+            right.len(),
+            work.as_mut_ptr(),
+            work.len(),
+            output,
+        )
+    }
+}
+
+fn decode_into(p: u8, digits: &[u8], number: &mut u64) -> u8 {
+    unsafe { exports::staplethread_decode(p, digits.as_ptr(), digits.len(), number) }
+}
+
+/// The table of a card at the start of `table`. It fills exactly 8(G+1) bytes.
+pub fn build(card: &[u8], table: &mut [u8]) -> Result<Report, Refusal> {
+    let mut told = Report::BLANK;
+    accepted(build_into(card, table, &mut told), told)
+}
+
+/// Build's report, from the card only.
+pub fn forecast(card: &[u8]) -> Result<Report, Refusal> {
+    let mut told = Report::BLANK;
+    accepted(forecast_into(card, &mut told), told)
+}
+
+/// The report on a table. Later bytes are not looked at.
+pub fn check(table: &[u8]) -> Result<Report, Refusal> {
+    let mut told = Report::BLANK;
+    accepted(check_into(table, &mut told), told)
+}
+
+/// The part of the bytes that is the table, or the empty part where Check refuses.
+pub fn trim(table: &[u8]) -> &[u8] {
+    let length = unsafe { exports::staplethread_trim(table.as_ptr(), table.len()) };
+    &table[..length]
+}
+
+/// The values of all gates at the start of `work`; the answer is the output's.
+pub fn run(table: &[u8], left: &[u8], right: &[u8], work: &mut [u8]) -> Result<u8, Refusal> {
+    let mut output = 0;
+    accepted(run_into(table, left, right, work, &mut output), output)
+}
+
+/// The n digits of a number, lowest first, at the start of `out`.
+pub fn encode(p: u8, n: usize, number: u64, out: &mut [u8]) -> Result<(), Refusal> {
+    let status = unsafe { exports::staplethread_encode(p, n, number, out.as_mut_ptr(), out.len()) };
+    accepted(status, ())
+}
+
+/// The number that digits stand for.
+pub fn decode(p: u8, digits: &[u8]) -> Result<u64, Refusal> {
+    let mut number = 0;
+    accepted(decode_into(p, digits, &mut number), number)
+}
+
+#[cfg(test)]
+mod tests {
+    use super::*;
+
+    const CARD: [u8; 10] = [0xC5, 0x48, 3, 75, 1, 0, 0xC5, 0x51, 1, 1];
+
+    #[test]
+    fn a_refusal_keeps_every_lent_number() {
+        let before = Report {
+            gates: 1,
+            products: 2,
+            squares: 3,
+            cost: Cost(4),
+            depth: Depth(5),
+        };
+        let mut told = before;
+        let mut table = [0; 63];
+        assert_eq!(forecast_into(&CARD[..5], &mut told), 1);
+        assert_eq!(build_into(&CARD, &mut table, &mut told), 11);
+        assert_eq!(check_into(&table[..7], &mut told), 12);
+        assert_eq!(told, before);
+        let (mut output, mut number) = (6, 7);
+        assert_eq!(run_into(&table, &[0], &[0], &mut [], &mut output), 2);
+        assert_eq!(decode_into(5, &[3], &mut number), 23);
+        assert_eq!((output, number), (6, 7));
+    }
+}

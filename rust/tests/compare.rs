@@ -1,0 +1,381 @@
+//! The proved library against the second program: random and damaged cards, tables and lists,
+//! every answer and every byte of every lent buffer, and the bytes around it.
+//!
+//! STAPLETHREAD_ROUNDS sets how many rounds each test takes.
+
+use second::Random;
+use std::collections::BTreeMap;
+use std::fmt::Debug;
+
+const ROUNDS: u64 = 100_000;
+
+fn rounds() -> u64 {
+    std::env::var("STAPLETHREAD_ROUNDS").map_or(ROUNDS, |text| {
+        text.parse().expect("STAPLETHREAD_ROUNDS is a number")
+    })
+}
+
+/// How often each answer came up: 0 counts successes, other keys are refusals.
+#[derive(Default)]
+struct Seen(BTreeMap<u8, u64>);
+
+impl Seen {
+    fn note<T>(&mut self, answer: &Result<T, u8>) {
+        let key = answer.as_ref().err().copied().unwrap_or(0);
+        *self.0.entry(key).or_default() += 1;
+    }
+
+    /// A comparison that never reached an answer has not compared it.
+    fn expect(&self, name: &str, answers: &[u8]) {
+        println!("{name}: {:?}", self.0);
+        for answer in answers {
+            assert!(
+                self.0.contains_key(answer),
+                "{name}: {answer} never came up"
+            );
+        }
+    }
+}
+
+/// The five numbers, whichever side they come from.
+type Numbers = (u16, u16, u16, u32, u16);
+
+fn of_library(answer: Result<staplethread::Report, staplethread::Refusal>) -> Result<Numbers, u8> {
+    answer
+        .map(|r| (r.gates, r.products, r.squares, r.cost.0, r.depth.0))
+        .map_err(|why| why.0)
+}
+
+fn of_second(answer: Result<second::Report, second::Refusal>) -> Result<Numbers, u8> {
+    answer.map(|r| (r.gates, r.products, r.squares, r.cost.0, r.depth.0))
+}
+
+fn number_of<T>(answer: Result<T, staplethread::Refusal>) -> Result<T, u8> {
+    answer.map_err(|why| why.0)
+}
+
+/// Lends the same random bytes to both sides, inside a margin that neither may touch.
+fn compare_lent<T: PartialEq + Debug>(
+    random: &mut Random,
+    length: usize,
+    input: &dyn Debug,
+    library: impl FnOnce(&mut [u8]) -> Result<T, u8>,
+    plain: impl FnOnce(&mut [u8]) -> Result<T, u8>,
+) -> (Result<T, u8>, Vec<u8>) {
+    const MARGIN: usize = 16;
+    let seed = random.next_u64();
+    let mut ours = bytes_of(seed, length + 2 * MARGIN);
+    let mut theirs = ours.clone();
+    let lent = MARGIN..MARGIN + length;
+    let answer = library(&mut ours[lent.clone()]);
+    let expected = plain(&mut theirs[lent.clone()]);
+    assert_eq!(answer, expected, "{length} bytes lent, {input:02X?}");
+    if ours != theirs {
+        let place = (0..ours.len()).find(|&i| ours[i] != theirs[i]);
+        panic!("byte {place:?} differs, {length} bytes lent, {input:02X?}");
+    }
+    (answer, ours[lent].to_vec())
+}
+
+/// Bytes by a seed: eight from each draw, as there are many.
+fn bytes_of(seed: u64, count: usize) -> Vec<u8> {
+    let mut random = Random::new(seed);
+    let mut bytes = Vec::with_capacity(count + 8);
+    while bytes.len() < count {
+        bytes.extend_from_slice(&random.next_u64().to_le_bytes());
+    }
+    bytes.truncate(count);
+    bytes
+}
+
+/// One time in so many.
+fn rarely(random: &mut Random, times: u64) -> bool {
+    random.below(times) == 0
+}
+
+fn prime(random: &mut Random) -> u8 {
+    // Small primes as often as all: their tables are quickly made.
+    match random.below(4) {
+        0 => random.pick(&second::field::PRIMES),
+        1 => random.pick(&[3, 5, 7]),
+        _ => random.pick(&[11, 13, 17, 19, 23, 29, 31]),
+    }
+}
+
+/// A card that is accepted but for a digit count of more than 16 in all.
+fn card(random: &mut Random) -> Vec<u8> {
+    let count = 1 + random.byte_below(8);
+    let weight = 50 + random.byte_below(51);
+    let mut bytes = vec![0xC5, 0x48, prime(random), weight, count, 0];
+    for _ in 0..count {
+        let most = if rarely(random, 8) { 16 } else { 16 / count };
+        let digits = 1 + random.byte_below(most);
+        bytes.extend_from_slice(&[0xC5, 0x51, 1 + random.byte_below(6), digits]);
+    }
+    bytes
+}
+
+/// A byte near the borders of the rules, or any.
+fn odd_byte(random: &mut Random) -> u8 {
+    match random.below(3) {
+        0 => random.pick(&[0, 1, 2, 6, 7, 8, 9, 16, 17, 49, 50, 100, 101, 249, 251, 255]),
+        1 => random.pick(&[0x47, 0x48, 0x54, 0xC5, 0x51]),
+        _ => random.next_u64() as u8,
+    }
+}
+
+/// Other bytes at a few places, mostly among the first ones; sometimes cut short or made longer.
+fn damage(random: &mut Random, bytes: &mut Vec<u8>) {
+    for _ in 0..random.below(3) {
+        if bytes.is_empty() {
+            break;
+        }
+        let most = if rarely(random, 2) {
+            bytes.len().min(16)
+        } else {
+            bytes.len()
+        };
+        let place = random.below(most as u64) as usize;
+        bytes[place] = odd_byte(random);
+    }
+    match random.below(12) {
+        0 => bytes.truncate(random.below(bytes.len() as u64 + 1) as usize),
+        1 => bytes.push(odd_byte(random)),
+        2 => bytes.extend_from_slice(&[0xC5, 0x51, 1, 1]),
+        _ => {}
+    }
+}
+
+/// One less, just enough, or more; or none.
+fn room(random: &mut Random, needed: usize) -> usize {
+    match random.below(8) {
+        0 => needed.saturating_sub(1),
+        1 => 0,
+        2 => random.below(needed as u64 + 1) as usize,
+        3 => needed + random.below(40) as usize,
+        _ => needed,
+    }
+}
+
+#[test]
+fn cards() {
+    let mut random = Random::new(1);
+    let mut built = Seen::default();
+    let mut forecast = Seen::default();
+    for _ in 0..rounds() {
+        let mut card = card(&mut random);
+        if rarely(&mut random, 2) {
+            damage(&mut random, &mut card);
+        }
+        let before = card.clone();
+        let told = of_library(staplethread::forecast(&card));
+        assert_eq!(told, of_second(second::forecast(&card)), "{card:02X?}");
+        forecast.note(&told);
+        let needed = told.as_ref().map_or(64, |r| 8 * (usize::from(r.0) + 1));
+        let length = room(&mut random, needed);
+        let (answer, _) = compare_lent(
+            &mut random,
+            length,
+            &card,
+            |table| of_library(staplethread::build(&card, table)),
+            |table| of_second(second::build(&card, table)),
+        );
+        built.note(&answer);
+        assert_eq!(card, before);
+    }
+    built.expect("build", &[0, 1, 2, 3, 4, 5, 6, 7, 8, 9, 10, 11]);
+    forecast.expect("forecast", &[0, 1, 2, 3, 4, 5, 6, 7, 8, 9, 10]);
+}
+
+/// A table that Build wrote.
+fn built_table(random: &mut Random) -> Vec<u8> {
+    loop {
+        let card = card(random);
+        if let Ok(report) = second::forecast(&card) {
+            if report.gates < 1_000 || rarely(random, 20) {
+                let mut table = vec![0; 8 * (usize::from(report.gates) + 1)];
+                second::build(&card, &mut table).expect("it has room");
+                return table;
+            }
+        }
+    }
+}
+
+/// A table of gates that no card gives; now and then one of them breaks a rule.
+fn drawn_table(random: &mut Random) -> Vec<u8> {
+    let most = if rarely(random, 200) { 8191 } else { 60 };
+    let gates = 1 + random.below(most) as u16;
+    let slots = 1 + random.byte_below(16);
+    let p = prime(random);
+    let [low, high] = gates.to_le_bytes();
+    let weight = 50 + random.byte_below(51);
+    let mut table = vec![0x47, 0x48, p, weight, slots, 0, low, high];
+    for number in 0..gates {
+        let kind = match number {
+            0 => 1 + random.byte_below(2),
+            _ => 1 + random.byte_below(7),
+        };
+        let earlier = |random: &mut Random| random.below(u64::from(number) + 1).saturating_sub(1);
+        let a = match kind {
+            1 | 2 => random.below(u64::from(slots)),
+            _ => earlier(random),
+        };
+        let b = match kind {
+            3 | 4 => earlier(random),
+            5 => random.below(u64::from(p)),
+            7 if rarely(random, 2) => a,
+            7 => earlier(random),
+            _ => 0,
+        };
+        table.extend_from_slice(&[0x47, 0x54, kind, 0]);
+        table.extend_from_slice(&(a as u16).to_le_bytes());
+        table.extend_from_slice(&(b as u16).to_le_bytes());
+    }
+    table
+}
+
+fn table(random: &mut Random) -> Vec<u8> {
+    let mut table = if rarely(random, 2) {
+        built_table(random)
+    } else {
+        drawn_table(random)
+    };
+    if rarely(random, 3) {
+        damage(random, &mut table);
+    } else if rarely(random, 3) {
+        table.extend(bytes_of(random.next_u64(), 20));
+    }
+    table
+}
+
+/// A list for Run: mostly right, sometimes of another length or with a value of p or more.
+fn list(random: &mut Random, p: u8, slots: usize) -> Vec<u8> {
+    let length = match random.below(16) {
+        0 => slots + 1,
+        1 => slots.saturating_sub(1),
+        _ => slots,
+    };
+    let mut list = random.bytes_below(p.max(1), length);
+    if rarely(random, 12) && length > 0 {
+        list[random.below(length as u64) as usize] = p;
+    }
+    list
+}
+
+#[test]
+fn tables() {
+    let mut random = Random::new(2);
+    let mut checked = Seen::default();
+    let mut run = Seen::default();
+    for _ in 0..rounds() {
+        let table = table(&mut random);
+        let before = table.clone();
+        let answer = of_library(staplethread::check(&table));
+        assert_eq!(answer, of_second(second::check(&table)), "{table:02X?}");
+        checked.note(&answer);
+        let part = staplethread::trim(&table);
+        assert_eq!(part, second::trim(&table));
+        assert!(part.is_empty() || std::ptr::eq(part.as_ptr(), table.as_ptr()));
+        let (p, slots) = (
+            table.get(2).copied().unwrap_or(3),
+            table.get(4).copied().unwrap_or(1) % 32,
+        );
+        let left = list(&mut random, p, usize::from(slots));
+        let right = list(&mut random, p, usize::from(slots));
+        let gates = answer.as_ref().map_or(7, |r| usize::from(r.0));
+        let length = room(&mut random, gates);
+        let (output, _) = compare_lent(
+            &mut random,
+            length,
+            &(&table, &left, &right),
+            |work| number_of(staplethread::run(&table, &left, &right, work)),
+            |work| second::run(&table, &left, &right, work),
+        );
+        run.note(&output);
+        assert_eq!(table, before);
+    }
+    checked.expect("check", &[0, 2, 3, 4, 5, 12, 13, 14, 15, 16, 17]);
+    run.expect("run", &[0, 2, 3, 4, 5, 12, 13, 14, 15, 16, 17, 18, 19, 20]);
+}
+
+/// The bit that the library computes is the truth about the numbers.
+#[test]
+fn outputs() {
+    let mut random = Random::new(3);
+    let mut counts = [0u64; 2];
+    for _ in 0..rounds() {
+        let card = card(&mut random);
+        let Ok(report) = staplethread::forecast(&card) else {
+            continue;
+        };
+        let mut table = vec![0; report.table_bytes()];
+        assert_eq!(staplethread::build(&card, &mut table), Ok(report));
+        let slots = usize::from(table[4]);
+        let base = card[2] / 2 + 1;
+        let left = random.bytes_below(base, slots);
+        let mut right = left.clone();
+        for digit in &mut right {
+            if rarely(&mut random, 3) {
+                *digit = random.byte_below(base);
+            }
+        }
+        let truth = second::holds(&card, &left, &right).expect("digits below B");
+        let mut work = vec![0; usize::from(report.gates)];
+        let bit = staplethread::run(&table, &left, &right, &mut work);
+        assert_eq!(bit, Ok(u8::from(truth)), "{card:02X?} {left:?} {right:?}");
+        counts[usize::from(truth)] += 1;
+    }
+    println!("outputs: {counts:?}");
+    assert!(counts[0] > 0 && counts[1] > 0);
+}
+
+fn any_prime(random: &mut Random) -> u8 {
+    if rarely(random, 8) {
+        odd_byte(random)
+    } else {
+        prime(random)
+    }
+}
+
+#[test]
+fn encodings() {
+    let mut random = Random::new(4);
+    let mut seen = Seen::default();
+    for _ in 0..rounds() {
+        let p = any_prime(&mut random);
+        let n = random.below(18) as usize;
+        let number = random.next_u64() >> random.below(64);
+        let length = room(&mut random, n);
+        let (answer, lent) = compare_lent(
+            &mut random,
+            length,
+            &(p, n, number),
+            |out| number_of(staplethread::encode(p, n, number, out)),
+            |out| second::encode(p, n, number, out),
+        );
+        if answer.is_ok() {
+            assert_eq!(staplethread::decode(p, &lent[..n]), Ok(number));
+        }
+        seen.note(&answer);
+    }
+    seen.expect("encode", &[0, 3, 9, 21, 22]);
+}
+
+#[test]
+fn decodings() {
+    let mut random = Random::new(5);
+    let mut seen = Seen::default();
+    for _ in 0..rounds() {
+        let p = any_prime(&mut random);
+        let n = random.below(18) as usize;
+        let base = p / 2 + 1;
+        let mut digits = random.bytes_below(base, n);
+        if rarely(&mut random, 4) && n > 0 {
+            digits[random.below(n as u64) as usize] = random.pick(&[base, base - 1, 255]);
+        }
+        let answer = number_of(staplethread::decode(p, &digits));
+        assert_eq!(answer, second::decode(p, &digits), "{p} {digits:?}");
+        seen.note(&answer);
+    }
+    seen.expect("decode", &[0, 3, 9, 23, 24]);
+}

@@ -1,0 +1,84 @@
+//! The print program as it is run: a card's bytes on standard input, the listing on standard
+//! output, compared with the second program's. `rt check print` writes the program.
+
+use second::Random;
+use std::io::{ErrorKind, Write};
+use std::process::{Command, Stdio};
+
+/// What the program writes for some input.
+fn printed(input: &[u8]) -> String {
+    let mut child = Command::new(concat!(env!("CARGO_MANIFEST_DIR"), "/../target/bin/print"))
+        .stdin(Stdio::piped())
+        .stdout(Stdio::piped())
+        .spawn()
+        .expect("`rt check print` has written the program");
+    let mut pipe = child.stdin.take().expect("it is piped");
+    match pipe.write_all(input) {
+        // It stops reading where the input is longer than any card.
+        Err(why) if why.kind() == ErrorKind::BrokenPipe => {}
+        outcome => outcome.expect("the pipe takes the card"),
+    }
+    drop(pipe);
+    let output = child.wait_with_output().expect("it ends");
+    assert!(output.status.success());
+    String::from_utf8(output.stdout).expect("a listing is ASCII")
+}
+
+fn compare(input: &[u8]) {
+    assert!(printed(input) == second::listing(input), "{input:02X?}");
+}
+
+#[test]
+fn first_bench_card() {
+    let card = [0xC5, 0x48, 3, 75, 1, 0, 0xC5, 0x51, 1, 1];
+    let text = printed(&card);
+    assert!(text.starts_with("gates 7 products 0 squares 1 cost 75 depth 1\n0 LEFT 0 0\n"));
+    assert!(text.ends_with("\n6 ADD 4 5\n"));
+    compare(&card);
+}
+
+#[test]
+fn every_relation() {
+    for relation in 0..8 {
+        for n in [1, 2, 3, 7, 16, 17] {
+            for p in [3, 5, 7, 31] {
+                compare(&[0xC5, 0x48, p, 80, 1, 0, 0xC5, 0x51, relation, n]);
+            }
+        }
+    }
+}
+
+#[test]
+fn largest_card() {
+    compare(&[0xC5, 0x48, 251, 100, 1, 0, 0xC5, 0x51, 2, 16]);
+}
+
+/// The card of eight conditions, each length up to it, and longer ones.
+#[test]
+fn every_length() {
+    let mut card = vec![0xC5, 0x48, 11, 90, 8, 0];
+    for relation in [6, 1, 5, 4, 2, 3, 5, 1] {
+        card.extend_from_slice(&[0xC5, 0x51, relation, 2]);
+    }
+    for length in 0..=card.len() {
+        compare(&card[..length]);
+    }
+    for length in [1, 4, 1_000, 100_000] {
+        let mut longer = card.clone();
+        longer.resize(card.len() + length, 0);
+        compare(&longer);
+        longer[0] = 0;
+        compare(&longer);
+    }
+}
+
+#[test]
+fn damaged_cards() {
+    let mut random = Random::new(6);
+    for _ in 0..300 {
+        let mut card = vec![0xC5, 0x48, 13, 60, 2, 0, 0xC5, 0x51, 4, 2, 0xC5, 0x51, 5, 3];
+        let place = random.below(card.len() as u64) as usize;
+        card[place] = random.next_u64() as u8;
+        compare(&card);
+    }
+}

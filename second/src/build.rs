@@ -1,0 +1,271 @@
+//! Build: "Writing one condition" and "Whole card".
+
+use crate::card::{Card, Condition, Relation};
+use crate::field::order_constants;
+use crate::forecast::card_report;
+use crate::refusal::{self, Refusal};
+use crate::report::{cost, Depth, Report};
+use crate::table::{table_bytes, Gate, Head, Kind, RECORD_BYTES};
+
+/// A written gate: its number and its depth.
+#[derive(Clone, Copy, Debug, PartialEq, Eq)]
+struct Wire {
+    gate: u16,
+    depth: u16,
+}
+
+/// L of an order digit or of a run of them, and E unless it has digit 0.
+#[derive(Clone, Copy, Debug)]
+struct Order {
+    less: Wire,
+    equal: Option<Wire>,
+}
+
+/// Writes gates into the lent table and counts them.
+struct Writer<'a> {
+    table: &'a mut [u8],
+    gates: u16,
+    products: u16,
+    squares: u16,
+}
+
+/// Build: fills exactly 8(G+1) bytes of the table.
+pub fn build(card: &[u8], table: &mut [u8]) -> Result<Report, Refusal> {
+    let card = Card::read(card)?;
+    let room = table_bytes(card_report(&card).gates);
+    let table = table.get_mut(..room).ok_or(refusal::TABLE_ROOM)?;
+    let mut writer = Writer::new(table);
+    let output = write_card(&mut writer, &card);
+    writer.write_head(&card);
+    Ok(Report {
+        gates: writer.gates,
+        products: writer.products,
+        squares: writer.squares,
+        cost: cost(card.weight, writer.products, writer.squares),
+        depth: Depth(output.depth),
+    })
+}
+
+impl<'a> Writer<'a> {
+    fn new(table: &'a mut [u8]) -> Writer<'a> {
+        Writer {
+            table,
+            gates: 0,
+            products: 0,
+            squares: 0,
+        }
+    }
+
+    fn write_head(&mut self, card: &Card) {
+        let head = Head {
+            p: card.p,
+            weight: card.weight,
+            slots: card.digits() as u8,
+            gates: self.gates,
+        };
+        self.table[..RECORD_BYTES].copy_from_slice(&head.record());
+    }
+
+    fn write(&mut self, kind: Kind, a: u16, b: u16, depth: u16) -> Wire {
+        let gate = Gate { kind, a, b };
+        let number = self.gates;
+        let start = table_bytes(number);
+        self.table[start..start + RECORD_BYTES].copy_from_slice(&gate.record());
+        self.gates += 1;
+        self.products += u16::from(gate.is_product());
+        self.squares += u16::from(gate.is_square());
+        Wire {
+            gate: number,
+            depth,
+        }
+    }
+
+    fn left(&mut self, slot: usize) -> Wire {
+        self.write(Kind::Left, slot as u16, 0, 0)
+    }
+
+    fn right(&mut self, slot: usize) -> Wire {
+        self.write(Kind::Right, slot as u16, 0, 0)
+    }
+
+    fn add(&mut self, a: Wire, b: Wire) -> Wire {
+        self.write(Kind::Add, a.gate, b.gate, a.depth.max(b.depth))
+    }
+
+    fn sub(&mut self, a: Wire, b: Wire) -> Wire {
+        self.write(Kind::Sub, a.gate, b.gate, a.depth.max(b.depth))
+    }
+
+    fn scale(&mut self, a: Wire, constant: u8) -> Wire {
+        self.write(Kind::Scale, a.gate, u16::from(constant), a.depth)
+    }
+
+    fn flip(&mut self, a: Wire) -> Wire {
+        self.write(Kind::Flip, a.gate, 0, a.depth)
+    }
+
+    fn mul(&mut self, a: Wire, b: Wire) -> Wire {
+        self.write(Kind::Mul, a.gate, b.gate, a.depth.max(b.depth) + 1)
+    }
+
+    fn square(&mut self, a: Wire) -> Wire {
+        self.mul(a, a)
+    }
+}
+
+/// "Conditions in order, then the product tree over their outputs."
+fn write_card(writer: &mut Writer, card: &Card) -> Wire {
+    // The constants of the prime serve all order conditions of the card.
+    let constants = if card.conditions.iter().any(|c| c.relation.is_order()) {
+        order_constants(card.p)
+    } else {
+        Vec::new()
+    };
+    let mut slot = 0;
+    let mut outputs = Vec::with_capacity(card.conditions.len());
+    for condition in &card.conditions {
+        outputs.push(write_condition(writer, card.p, &constants, condition, slot));
+        slot += condition.digits;
+    }
+    product_tree(writer, outputs)
+}
+
+/// "Digits go low to high", then they are joined, then the last FLIP.
+fn write_condition(
+    writer: &mut Writer,
+    p: u8,
+    constants: &[u8],
+    condition: &Condition,
+    first_slot: usize,
+) -> Wire {
+    let relation = condition.relation;
+    let slots = first_slot..first_slot + condition.digits;
+    let joined = if relation.is_order() {
+        let mut digits = Vec::with_capacity(condition.digits);
+        let mut powers = Vec::with_capacity(usize::from(p));
+        for slot in slots {
+            let z = write_difference(writer, relation, slot);
+            write_powers(writer, p, z, &mut powers);
+            digits.push(order_digit(writer, constants, &powers, slot == first_slot));
+        }
+        join_order(writer, &digits).less
+    } else {
+        let mut digits = Vec::with_capacity(condition.digits);
+        for slot in slots {
+            let z = write_difference(writer, relation, slot);
+            digits.push(equality_digit(writer, p, z));
+        }
+        product_tree(writer, digits)
+    };
+    if relation.ends_with_flip() {
+        writer.flip(joined)
+    } else {
+        joined
+    }
+}
+
+/// "Each writes LEFT, RIGHT, then z: left minus right for relations 1, 4, 5,
+/// 6, right minus left for 2, 3."
+fn write_difference(writer: &mut Writer, relation: Relation, slot: usize) -> Wire {
+    let left = writer.left(slot);
+    let right = writer.right(slot);
+    if relation.swaps() {
+        writer.sub(right, left)
+    } else {
+        writer.sub(left, right)
+    }
+}
+
+/// "t=p-1, bit 0 upward. At each bit after 0 square the running power. At a
+/// set bit it becomes the collected power, or MUL (collected, running) if one
+/// exists. After the top bit, FLIP."
+fn equality_digit(writer: &mut Writer, p: u8, z: Wire) -> Wire {
+    let mut bits = p - 1;
+    let mut running = z;
+    let mut collected: Option<Wire> = None;
+    loop {
+        if bits & 1 == 1 {
+            collected = Some(match collected {
+                None => running,
+                Some(power) => writer.mul(power, running),
+            });
+        }
+        bits >>= 1;
+        if bits == 0 {
+            break;
+        }
+        running = writer.square(running);
+    }
+    writer.flip(collected.expect("p-1 has a set bit"))
+}
+
+/// "Powers z^i ascending for i = 2 to (p-1)/2, then the odd i above that to
+/// p-2, then p-1." Power i is put at place i; even places above (p-1)/2 but
+/// the last one, and place 0, hold z and are never used.
+fn write_powers(writer: &mut Writer, p: u8, z: Wire, powers: &mut Vec<Wire>) {
+    let last = usize::from(p) - 1;
+    let half = last / 2;
+    powers.clear();
+    powers.resize(last + 1, z);
+    let odd_above = (half + 1..last).filter(|i| i % 2 == 1);
+    for i in (2..=half).chain(odd_above).chain([last]) {
+        // "Even i squares z^(i/2); odd i is MUL(z^((i-1)/2), z^((i+1)/2))."
+        powers[i] = writer.mul(powers[i / 2], powers[i.div_ceil(2)]);
+    }
+}
+
+/// "Then for i = 1, 3, .. p-2, p-1 a SCALE of z^i by c_i, each after the first
+/// followed by ADD(sum, it). The sum is L. Every digit but the lowest then
+/// FLIPs z^(p-1): E."
+fn order_digit(writer: &mut Writer, constants: &[u8], powers: &[Wire], is_lowest: bool) -> Order {
+    let last = powers.len() - 1;
+    let mut less = writer.scale(powers[1], constants[0]);
+    let others = (3..last).step_by(2).chain([last]);
+    for (i, &constant) in others.zip(&constants[1..]) {
+        let term = writer.scale(powers[i], constant);
+        less = writer.add(less, term);
+    }
+    let equal = if is_lowest {
+        None
+    } else {
+        Some(writer.flip(powers[last]))
+    };
+    Order { less, equal }
+}
+
+/// "A run of m>=2 digits splits into the low floor(m/2) and the rest; low joins
+/// first, then high, then MUL(E_high, L_low), ADD(L_high, it), and, if the run
+/// lacks digit 0, MUL(E_low, E_high)."
+fn join_order(writer: &mut Writer, digits: &[Order]) -> Order {
+    if let [digit] = digits {
+        return *digit;
+    }
+    let (low, high) = digits.split_at(digits.len() / 2);
+    let low = join_order(writer, low);
+    let high = join_order(writer, high);
+    let high_equal = high.equal.expect("only the lowest run has digit 0");
+    let decided_low = writer.mul(high_equal, low.less);
+    let less = writer.add(high.less, decided_low);
+    let equal = low.equal.map(|low_equal| writer.mul(low_equal, high_equal));
+    Order { less, equal }
+}
+
+/// "While two factors remain, MUL the two of least depth, equal depths by
+/// lower gate number, first chosen as a; the product is a new factor."
+fn product_tree(writer: &mut Writer, mut factors: Vec<Wire>) -> Wire {
+    loop {
+        let a = take_least(&mut factors);
+        if factors.is_empty() {
+            return a;
+        }
+        let b = take_least(&mut factors);
+        factors.push(writer.mul(a, b));
+    }
+}
+
+fn take_least(factors: &mut Vec<Wire>) -> Wire {
+    let least = (0..factors.len())
+        .min_by_key(|&i| (factors[i].depth, factors[i].gate))
+        .expect("a tree has a factor");
+    factors.swap_remove(least)
+}

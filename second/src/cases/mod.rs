@@ -1,0 +1,30 @@
+//! The case script, by topics.
+
+mod cards;
+mod coding;
+mod relations;
+mod runs;
+mod tables;
+mod writer;
+
+use writer::Script;
+
+/// The card of "Bench cards": p=3, s=75, one "<" of 1.
+const BENCH: [u8; 10] = [0xC5, 0x48, 0x03, 0x4B, 1, 0, 0xC5, 0x51, 1, 1];
+
+/// The primes at which each relation is tried.
+const SOME_PRIMES: [u8; 9] = [3, 5, 7, 11, 13, 17, 31, 127, 251];
+
+const RELATIONS: [u8; 6] = [1, 2, 3, 4, 5, 6];
+
+/// The case script: the same text each time.
+pub fn cases() -> String {
+    let mut script = Script::new();
+    cards::write(&mut script);
+    tables::write(&mut script);
+    runs::write(&mut script);
+    relations::write(&mut script);
+    coding::write(&mut script);
+    tables::longest(&mut script);
+    script.finish()
+}

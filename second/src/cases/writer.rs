@@ -1,0 +1,92 @@
+//! Writes the lines of a case script.
+
+use crate::card::Card;
+use crate::field::half_range;
+use crate::forecast::forecast;
+use crate::random::Random;
+use crate::script::hex;
+use crate::table::table_bytes;
+use std::fmt::Display;
+
+pub struct Script {
+    text: String,
+}
+
+impl Script {
+    pub fn new() -> Script {
+        Script {
+            text: String::new(),
+        }
+    }
+
+    pub fn finish(self) -> String {
+        self.text
+    }
+
+    fn line(&mut self, line: impl Display) {
+        self.text.push_str(&line.to_string());
+        self.text.push('\n');
+    }
+
+    pub fn forecast(&mut self, card: &[u8]) {
+        self.line(format_args!("forecast {}", hex(card)));
+    }
+
+    pub fn build(&mut self, room: usize, card: &[u8]) {
+        self.line(format_args!("build {room} {}", hex(card)));
+    }
+
+    /// Builds an accepted card in just the bytes that it takes; its gates.
+    pub fn build_exactly(&mut self, card: &[u8]) -> usize {
+        let gates = forecast(card).expect("an accepted card").gates;
+        self.build(table_bytes(gates), card);
+        usize::from(gates)
+    }
+
+    pub fn check(&mut self) {
+        self.line("check");
+    }
+
+    pub fn trim(&mut self) {
+        self.line("trim");
+    }
+
+    pub fn run(&mut self, room: usize, left: &[u8], right: &[u8]) {
+        self.line(format_args!("run {room} {} {}", hex(left), hex(right)));
+    }
+
+    pub fn encode(&mut self, p: u8, n: usize, number: u64, room: usize) {
+        self.line(format_args!("encode {p} {n} {number} {room}"));
+    }
+
+    pub fn decode(&mut self, p: u8, digits: &[u8]) {
+        self.line(format_args!("decode {p} {}", hex(digits)));
+    }
+
+    pub fn table(&mut self, bytes: &[u8]) {
+        self.line(format_args!("table {}", hex(bytes)));
+    }
+
+    pub fn set(&mut self, place: usize, byte: u8) {
+        self.line(format_args!("set {place} {byte}"));
+    }
+
+    pub fn cut(&mut self, length: usize) {
+        self.line(format_args!("cut {length}"));
+    }
+}
+
+/// Two lists of digits for an accepted card; about `changed` of eight digits
+/// of the right one differ from the left one.
+pub fn draw_lists(random: &mut Random, card: &[u8], changed: u64) -> (Vec<u8>, Vec<u8>) {
+    let card = Card::read(card).expect("an accepted card");
+    let base = half_range(card.p);
+    let left = random.bytes_below(base, card.digits());
+    let mut right = left.clone();
+    for digit in &mut right {
+        if random.below(8) < changed {
+            *digit = random.byte_below(base);
+        }
+    }
+    (left, right)
+}

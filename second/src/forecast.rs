@@ -1,0 +1,99 @@
+//! Forecast: the answers from the card only, by closed formulas.
+
+use crate::card::{Card, Condition};
+use crate::field::{ceil_log2, floor_log2};
+use crate::refusal::Refusal;
+use crate::report::{cost, Depth, Report};
+
+/// Gates, products, squares and depth of one condition.
+struct Share {
+    gates: u32,
+    products: u32,
+    squares: u32,
+    depth: u32,
+}
+
+/// Forecast: Build's answers, without 11.
+pub fn forecast(card: &[u8]) -> Result<Report, Refusal> {
+    Ok(card_report(&Card::read(card)?))
+}
+
+/// "Gates: per order condition .., per equality condition .., plus c-1." The
+/// c-1 gates that join the conditions are products. All counts fit a u16: no
+/// card has more than 7113 gates.
+pub fn card_report(card: &Card) -> Report {
+    let joins = card.conditions.len() as u32 - 1;
+    let mut gates = joins;
+    let mut products = joins;
+    let mut squares = 0;
+    let mut weights = 0;
+    for condition in &card.conditions {
+        let share = share(card.p, condition);
+        gates += share.gates;
+        products += share.products;
+        squares += share.squares;
+        weights += 1 << share.depth;
+    }
+    let (products, squares) = (products as u16, squares as u16);
+    Report {
+        gates: gates as u16,
+        products,
+        squares,
+        cost: cost(card.weight, products, squares),
+        depth: Depth(tree_depth(weights)),
+    }
+}
+
+/// The depth of a product tree that joins the least deep first: the least d
+/// with 2^d not below the sum of 2^depth over its factors.
+fn tree_depth(weights: u32) -> u16 {
+    ceil_log2(weights) as u16
+}
+
+fn share(p: u8, condition: &Condition) -> Share {
+    let p = u32::from(p);
+    let n = condition.digits as u32;
+    let mut share = if condition.relation.is_order() {
+        order_share(p, n)
+    } else {
+        equality_share(p, n)
+    };
+    if condition.relation.ends_with_flip() {
+        share.gates += 1;
+    }
+    share
+}
+
+/// n(p+4+(p-3)/2+floor((p-1)/4)) + 4(n-1) - flog(n) gates.
+///
+/// A digit's products are the odd powers from 3 to p-2, its squares the even
+/// powers up to (p-1)/2 and p-1. A join has one product, and a second one
+/// unless its run has digit 0; flog(n) runs of two or more have it. Power i is
+/// ceil(log2(i)) deep, so L and E of a digit are both D deep, and halving adds
+/// ceil(log2(n)).
+fn order_share(p: u32, n: u32) -> Share {
+    let odd_powers = (p - 3) / 2;
+    let even_powers = (p - 1) / 4;
+    Share {
+        gates: n * (p + 4 + odd_powers + even_powers) + 4 * (n - 1) - floor_log2(n),
+        products: n * odd_powers + 2 * (n - 1) - floor_log2(n),
+        squares: n * (even_powers + 1),
+        depth: ceil_log2(p - 1) + ceil_log2(n),
+    }
+}
+
+/// n(3+flog(t)+ones(t)) + n-1 gates, with t = p-1; "flog(t) squares and
+/// ones(t)-1 products" a digit.
+///
+/// The running power of bit k is k deep, a collected product of top bit k is
+/// one more, so a digit is D deep; n equal depths join in ceil(log2(n)) levels.
+fn equality_share(p: u32, n: u32) -> Share {
+    let t = p - 1;
+    let ones = t.count_ones();
+    Share {
+        gates: n * (3 + floor_log2(t) + ones) + n - 1,
+        products: n * (ones - 1) + n - 1,
+        squares: n * floor_log2(t),
+        depth: ceil_log2(t) + ceil_log2(n),
+    }
+}

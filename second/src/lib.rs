@@ -1,0 +1,30 @@
+//! The query builder: cards, gate tables, the plain run of a table, digit
+//! coding and a forecast, as the document on the builder's rules has them.
+
+pub mod build;
+pub mod card;
+pub mod cases;
+pub mod digits;
+pub mod direct;
+pub mod field;
+pub mod forecast;
+pub mod listing;
+pub mod random;
+pub mod refusal;
+pub mod report;
+pub mod run;
+pub mod script;
+pub mod table;
+
+pub use build::build;
+pub use cases::cases;
+pub use digits::{decode, encode};
+pub use direct::holds;
+pub use forecast::forecast;
+pub use listing::listing;
+pub use random::Random;
+pub use refusal::Refusal;
+pub use report::{Cost, Depth, Report};
+pub use run::run;
+pub use script::answers;
+pub use table::{check, trim};

@@ -1,0 +1,237 @@
+//! "Gate table": the records, Check and Trim.
+
+use crate::card::is_weight;
+use crate::field::{is_listed, MOST_DIGITS};
+use crate::refusal::{self, demand, Refusal};
+use crate::report::{cost, Depth, Report};
+
+pub const RECORD_BYTES: usize = 8;
+pub const HEAD_MARK: [u8; 2] = [0x47, 0x48];
+pub const GATE_MARK: [u8; 2] = [0x47, 0x54];
+pub const MOST_GATES: u16 = 8191;
+
+#[derive(Clone, Copy, Debug, PartialEq, Eq)]
+pub enum Kind {
+    Left,
+    Right,
+    Add,
+    Sub,
+    Scale,
+    Flip,
+    Mul,
+}
+
+/// One gate record; the operands mean what the kind says.
+#[derive(Clone, Copy, Debug, PartialEq, Eq)]
+pub struct Gate {
+    pub kind: Kind,
+    pub a: u16,
+    pub b: u16,
+}
+
+/// The head record.
+#[derive(Clone, Copy, Debug, PartialEq, Eq)]
+pub struct Head {
+    pub p: u8,
+    pub weight: u8,
+    pub slots: u8,
+    pub gates: u16,
+}
+
+/// A table that Check accepts.
+#[derive(Clone, Copy, Debug)]
+pub struct Table<'a> {
+    pub head: Head,
+    /// The head and the gates, without later bytes.
+    pub bytes: &'a [u8],
+}
+
+impl Kind {
+    pub fn from_code(code: u8) -> Option<Kind> {
+        match code {
+            1 => Some(Kind::Left),
+            2 => Some(Kind::Right),
+            3 => Some(Kind::Add),
+            4 => Some(Kind::Sub),
+            5 => Some(Kind::Scale),
+            6 => Some(Kind::Flip),
+            7 => Some(Kind::Mul),
+            _ => None,
+        }
+    }
+
+    pub fn code(self) -> u8 {
+        match self {
+            Kind::Left => 1,
+            Kind::Right => 2,
+            Kind::Add => 3,
+            Kind::Sub => 4,
+            Kind::Scale => 5,
+            Kind::Flip => 6,
+            Kind::Mul => 7,
+        }
+    }
+
+    pub fn name(self) -> &'static str {
+        match self {
+            Kind::Left => "LEFT",
+            Kind::Right => "RIGHT",
+            Kind::Add => "ADD",
+            Kind::Sub => "SUB",
+            Kind::Scale => "SCALE",
+            Kind::Flip => "FLIP",
+            Kind::Mul => "MUL",
+        }
+    }
+}
+
+impl Head {
+    /// "Head: 0x47 0x48, p, s, N, spare 0, gate count G as u16."
+    pub fn record(&self) -> [u8; RECORD_BYTES] {
+        let [m0, m1] = HEAD_MARK;
+        let [g0, g1] = self.gates.to_le_bytes();
+        [m0, m1, self.p, self.weight, self.slots, 0, g0, g1]
+    }
+
+    /// Check's refusals up to 14, in their order.
+    fn read(bytes: &[u8]) -> Result<Head, Refusal> {
+        demand(bytes.len() >= RECORD_BYTES, refusal::TABLE_SHORT)?;
+        let head = Head {
+            p: bytes[2],
+            weight: bytes[3],
+            slots: bytes[4],
+            gates: u16::from_le_bytes([bytes[6], bytes[7]]),
+        };
+        demand(bytes[..2] == HEAD_MARK, refusal::MARK)?;
+        demand(is_listed(head.p), refusal::PRIME)?;
+        demand(is_weight(head.weight), refusal::WEIGHT)?;
+        demand(
+            (1..=MOST_DIGITS).contains(&usize::from(head.slots)),
+            refusal::SLOT_COUNT,
+        )?;
+        demand(bytes[5] == 0, refusal::SPARE)?;
+        demand((1..=MOST_GATES).contains(&head.gates), refusal::GATE_COUNT)?;
+        Ok(head)
+    }
+}
+
+impl Gate {
+    /// "Gate: 0x47 0x54, kind, spare 0, a as u16, b as u16."
+    pub fn record(&self) -> [u8; RECORD_BYTES] {
+        let [m0, m1] = GATE_MARK;
+        let [a0, a1] = self.a.to_le_bytes();
+        let [b0, b1] = self.b.to_le_bytes();
+        [m0, m1, self.kind.code(), 0, a0, a1, b0, b1]
+    }
+
+    /// "By gate 2 mark, 5 spare, 16 kind"; operands are looked at apart.
+    fn read(record: &[u8]) -> Result<Gate, Refusal> {
+        demand(record[..2] == GATE_MARK, refusal::MARK)?;
+        demand(record[3] == 0, refusal::SPARE)?;
+        Gate::fields(record).ok_or(refusal::KIND)
+    }
+
+    /// Kind and operands as they stand; `None` where there is no such kind.
+    fn fields(record: &[u8]) -> Option<Gate> {
+        Some(Gate {
+            kind: Kind::from_code(record[2])?,
+            a: u16::from_le_bytes([record[4], record[5]]),
+            b: u16::from_le_bytes([record[6], record[7]]),
+        })
+    }
+
+    /// Whether gate `number` may have these operands: "Gates name only gates
+    /// with lower numbers; slots are below N", a constant is below p, and an
+    /// unused b is 0.
+    fn fits(&self, number: u16, head: &Head) -> bool {
+        match self.kind {
+            Kind::Left | Kind::Right => self.a < u16::from(head.slots) && self.b == 0,
+            Kind::Add | Kind::Sub | Kind::Mul => self.a < number && self.b < number,
+            Kind::Scale => self.a < number && self.b < u16::from(head.p),
+            Kind::Flip => self.a < number && self.b == 0,
+        }
+    }
+
+    /// "A MUL with a=b is a square."
+    pub fn is_square(&self) -> bool {
+        self.kind == Kind::Mul && self.a == self.b
+    }
+
+    /// "Any other MUL a product."
+    pub fn is_product(&self) -> bool {
+        self.kind == Kind::Mul && self.a != self.b
+    }
+}
+
+impl<'a> Table<'a> {
+    /// Reads a table in the order of Check's refusals.
+    pub fn read(bytes: &'a [u8]) -> Result<Table<'a>, Refusal> {
+        let head = Head::read(bytes)?;
+        let bytes = bytes
+            .get(..table_bytes(head.gates))
+            .ok_or(refusal::TABLE_LENGTH)?;
+        let records = bytes[RECORD_BYTES..].chunks_exact(RECORD_BYTES);
+        for (number, record) in (0..head.gates).zip(records) {
+            let gate = Gate::read(record)?;
+            demand(gate.fits(number, &head), refusal::OPERAND)?;
+        }
+        Ok(Table { head, bytes })
+    }
+
+    /// The gates in order.
+    pub fn gates(&self) -> impl Iterator<Item = Gate> + 'a {
+        self.bytes[RECORD_BYTES..]
+            .chunks_exact(RECORD_BYTES)
+            .map(|record| Gate::fields(record).expect("gates of a read table are sound"))
+    }
+
+    /// Counts over all records; "the table's depth is the last gate's".
+    fn report(&self) -> Report {
+        let mut products = 0;
+        let mut squares = 0;
+        let mut depths: Vec<u16> = Vec::with_capacity(usize::from(self.head.gates));
+        for gate in self.gates() {
+            products += u16::from(gate.is_product());
+            squares += u16::from(gate.is_square());
+            depths.push(gate_depth(&gate, &depths));
+        }
+        Report {
+            gates: self.head.gates,
+            products,
+            squares,
+            cost: cost(self.head.weight, products, squares),
+            depth: Depth(depths.last().copied().unwrap_or(0)),
+        }
+    }
+}
+
+/// "LEFT and RIGHT have depth 0; MUL adds 1 to the deeper operand, other kinds
+/// add none."
+fn gate_depth(gate: &Gate, lower: &[u16]) -> u16 {
+    let a = usize::from(gate.a);
+    let b = usize::from(gate.b);
+    match gate.kind {
+        Kind::Left | Kind::Right => 0,
+        Kind::Add | Kind::Sub => lower[a].max(lower[b]),
+        Kind::Scale | Kind::Flip => lower[a],
+        Kind::Mul => lower[a].max(lower[b]) + 1,
+    }
+}
+
+/// 8(G+1), the bytes of a table of G gates.
+pub fn table_bytes(gates: u16) -> usize {
+    RECORD_BYTES * (usize::from(gates) + 1)
+}
+
+/// Check: what Build would have answered for this table.
+pub fn check(table: &[u8]) -> Result<Report, Refusal> {
+    Ok(Table::read(table)?.report())
+}
+
+/// Trim: the part of the bytes that is the table, empty where Check refuses.
+pub fn trim(table: &[u8]) -> &[u8] {
+    match Table::read(table) {
+        Ok(table) => table.bytes,
+        Err(_) => &[],
+    }
+}

@@ -1,0 +1,119 @@
+//! The cases that the document gives, starred ones too.
+
+use second::card::card_bytes as card;
+use second::field::{order_constants, PRIMES};
+use second::{build, check, decode, encode, forecast, listing, run, Cost, Depth, Refusal, Report};
+
+const BENCH: [u8; 10] = [0xC5, 0x48, 0x03, 0x4B, 1, 0, 0xC5, 0x51, 1, 1];
+
+fn report(gates: u16, products: u16, squares: u16, cost: u32, depth: u16) -> Report {
+    Report {
+        gates,
+        products,
+        squares,
+        cost: Cost(cost),
+        depth: Depth(depth),
+    }
+}
+
+fn built(card: &[u8]) -> Vec<u8> {
+    let mut table = vec![0; 8 * (usize::from(forecast(card).unwrap().gates) + 1)];
+    build(card, &mut table).unwrap();
+    table
+}
+
+fn agree(card: &[u8], expected: Report) {
+    let mut table = vec![0; 65_536];
+    assert_eq!(forecast(card), Ok(expected));
+    assert_eq!(build(card, &mut table), Ok(expected));
+    assert_eq!(check(&table), Ok(expected));
+}
+
+fn refused(card: &[u8], number: Refusal) {
+    assert_eq!(forecast(card), Err(number));
+    assert_eq!(build(card, &mut []), Err(number));
+}
+
+#[test]
+fn bench_listing() {
+    let text = "gates 7 products 0 squares 1 cost 75 depth 1\n\
+                0 LEFT 0 0\n1 RIGHT 0 0\n2 SUB 0 1\n3 MUL 2 2\n\
+                4 SCALE 2 1\n5 SCALE 3 2\n6 ADD 4 5\n";
+    assert_eq!(listing(&BENCH), text);
+    assert_eq!(listing(&BENCH[..9]), "refused 7\n");
+    assert_eq!(listing(&[]), "refused 1\n");
+}
+
+#[test]
+fn bench_room() {
+    let mut table = [9; 65];
+    assert_eq!(build(&BENCH, &mut table[..63]), Err(11));
+    assert_eq!(table, [9; 65]);
+    assert_eq!(build(&BENCH, &mut table[..64]), Ok(report(7, 0, 1, 75, 1)));
+    assert_eq!(table[64], 9);
+}
+
+#[test]
+fn counts() {
+    agree(&card(7, 50, &[(5, 1)]), report(7, 1, 2, 200, 3));
+    agree(&card(5, 100, &[(1, 2)]), report(25, 3, 4, 700, 3));
+    assert_eq!(forecast(&card(5, 100, &[(2, 2)])).unwrap().gates, 26);
+    agree(&card(5, 80, &[(1, 1), (5, 3)]), report(32, 4, 8, 1040, 5));
+}
+
+#[test]
+fn constants() {
+    assert_eq!(order_constants(5), [4, 3, 3]);
+    assert_eq!(order_constants(7), [3, 1, 6, 4]);
+}
+
+#[test]
+fn small_comparisons() {
+    let table = built(&card(5, 100, &[(1, 2)]));
+    let mut work = [0; 25];
+    assert_eq!(run(&table, &[2, 1], &[1, 2], &mut work), Ok(1));
+    assert_eq!(run(&table, &[1, 2], &[2, 1], &mut work), Ok(0));
+    assert_eq!(run(&table, &[2, 2], &[2, 2], &mut work), Ok(0));
+}
+
+#[test]
+fn coding() {
+    let mut out = [7; 3];
+    assert_eq!(encode(5, 2, 9, &mut out), Err(22));
+    assert_eq!(out, [7; 3]);
+    assert_eq!(encode(5, 2, 8, &mut out), Ok(()));
+    assert_eq!(out, [2, 2, 7]);
+    assert_eq!(decode(5, &[2, 2]), Ok(8));
+    assert_eq!(decode(5, &[2, 3]), Err(23));
+    assert_eq!(decode(251, &[125; 16]), Err(24));
+}
+
+#[test]
+fn borders() {
+    assert!(forecast(&card(251, 50, &[(1, 1)])).is_ok());
+    refused(&card(249, 50, &[(1, 1)]), 3);
+    refused(&card(2, 50, &[(1, 1)]), 3);
+    refused(&card(249, 49, &[(1, 1)]), 3);
+    refused(&card(3, 49, &[(1, 1)]), 4);
+    refused(&card(3, 101, &[(1, 1)]), 4);
+    refused(&card(3, 50, &[(1, 17)]), 9);
+    refused(&card(3, 50, &[(1, 8), (1, 9)]), 10);
+}
+
+#[test]
+fn wrong_turns() {
+    // Digits go up to B-1 only: at p=5 a 3 is no digit, and 0 < 3 comes out 0.
+    let table = built(&card(5, 50, &[(1, 1)]));
+    assert_eq!(run(&table, &[0], &[3], &mut [0; 11]), Ok(0));
+    assert_eq!(run(&table, &[0], &[2], &mut [0; 11]), Ok(1));
+    // z^(p-1) is 0 at z=0, so equal digits are not less.
+    assert_eq!(run(&table, &[1], &[1], &mut [0; 11]), Ok(0));
+}
+
+#[test]
+fn the_primes_are_the_odd_primes_of_a_byte() {
+    let primes: Vec<u8> = (3..=255u8)
+        .filter(|&x| (2..x).all(|divisor| x % divisor != 0))
+        .collect();
+    assert_eq!(primes, PRIMES);
+}

@@ -1,0 +1,263 @@
+//! The case script and its answers.
+
+use second::card::CONDITION_BYTES;
+use second::{answers, cases, holds};
+use std::collections::{BTreeMap, BTreeSet};
+
+/// The script's lines, each with its answer where it has one.
+fn lines_with_answers<'a>(script: &'a str, text: &'a str) -> Vec<(&'a str, Option<&'a str>)> {
+    let mut answered = text.lines();
+    let lines = script
+        .lines()
+        .map(|line| match word(line) {
+            "table" | "set" | "cut" => (line, None),
+            _ => {
+                let (asked, answer) = answered.next().unwrap().split_once(": ").unwrap();
+                assert_eq!(asked, line);
+                (line, Some(answer))
+            }
+        })
+        .collect();
+    assert_eq!(answered.next(), None);
+    lines
+}
+
+fn word(line: &str) -> &str {
+    line.split(' ').next().unwrap()
+}
+
+/// The number of an answer `refused K`, with or without lent bytes.
+fn refusal(answer: &str) -> Option<u8> {
+    let rest = answer.strip_prefix("refused ")?;
+    rest.split(',').next().unwrap().parse().ok()
+}
+
+fn bytes(word: &str) -> Vec<u8> {
+    if word == "-" {
+        return Vec::new();
+    }
+    (0..word.len() / 2)
+        .map(|i| u8::from_str_radix(&word[2 * i..2 * i + 2], 16).unwrap())
+        .collect()
+}
+
+#[test]
+fn the_example() {
+    let script = "build 64 C548034B0100C5510101\ncheck\nrun 8 00 01\n\
+                  encode 5 2 8 3\ndecode 5 0202\ntrim\ncut 63\ntrim\nbuild 9 -\n";
+    let expected = "build 64 C548034B0100C5510101: \
+        gates 7 products 0 squares 1 cost 75 depth 1, lent checksum 35072\n\
+        check: gates 7 products 0 squares 1 cost 75 depth 1\n\
+        run 8 00 01: output 1, lent 0001020102020109\n\
+        encode 5 2 8 3: done, lent 020207\n\
+        decode 5 0202: number 8\n\
+        trim: length 64\n\
+        trim: length 0\n\
+        build 9 -: refused 1, lent 4748034B0100070047\n";
+    assert_eq!(answers(script), expected);
+}
+
+#[test]
+fn the_script_keeps_its_form() {
+    let script = cases();
+    assert!(script.is_ascii() && script.ends_with('\n') && !script.contains('\r'));
+    assert!(script.len() <= 250_000);
+    assert!((3_000..=8_000).contains(&script.lines().count()));
+    assert_eq!(script, cases());
+    for line in script.lines() {
+        let words: Vec<&str> = line.split(' ').collect();
+        assert!(words.iter().all(|word| !word.is_empty()), "{line}");
+        let number = |i: usize| words[i].parse::<u64>().unwrap();
+        let list = |i: usize| bytes(words[i]).len();
+        let fits = match words[0] {
+            "forecast" => words.len() == 2 && list(1) <= 64,
+            "build" => words.len() == 3 && number(1) <= 65_600 && list(2) <= 64,
+            "check" | "trim" => words.len() == 1,
+            "run" => words.len() == 4 && number(1) <= 8_200 && list(2) <= 64 && list(3) <= 64,
+            "encode" => {
+                words.len() == 5 && number(1) <= 255 && number(2) <= 65_600 && number(4) <= 32
+            }
+            "decode" => words.len() == 3 && number(1) <= 255 && list(2) <= 64,
+            "table" => words.len() == 2 && list(1) <= 1_024,
+            "set" => words.len() == 3 && number(1) < 65_600 && number(2) <= 255,
+            "cut" => words.len() == 2 && number(1) <= 65_600,
+            _ => false,
+        };
+        assert!(fits, "{line}");
+    }
+}
+
+#[test]
+fn each_refusal_of_each_operation_comes_up() {
+    let script = cases();
+    let text = answers(&script);
+    let mut counts: BTreeMap<&str, BTreeMap<u8, usize>> = BTreeMap::new();
+    for (line, answer) in lines_with_answers(&script, &text) {
+        if let Some(number) = answer.and_then(refusal) {
+            *counts
+                .entry(word(line))
+                .or_default()
+                .entry(number)
+                .or_default() += 1;
+        }
+    }
+    let expected: [(&str, &[u8]); 6] = [
+        ("forecast", &[1, 2, 3, 4, 5, 6, 7, 8, 9, 10]),
+        ("build", &[1, 2, 3, 4, 5, 6, 7, 8, 9, 10, 11]),
+        ("check", &[2, 3, 4, 5, 12, 13, 14, 15, 16, 17]),
+        ("run", &[2, 3, 4, 5, 12, 13, 14, 15, 16, 17, 18, 19, 20]),
+        ("encode", &[3, 9, 21, 22]),
+        ("decode", &[3, 9, 23, 24]),
+    ];
+    assert_eq!(counts.len(), expected.len());
+    for (operation, numbers) in expected {
+        let found: Vec<u8> = counts[operation].keys().copied().collect();
+        assert_eq!(found, numbers, "{operation}");
+        assert!(counts[operation].values().all(|&n| n >= 3), "{operation}");
+    }
+}
+
+#[test]
+fn each_kind_of_answer_comes_up() {
+    let script = cases();
+    let text = answers(&script);
+    let lines = lines_with_answers(&script, &text);
+    let count = |command: &str, start: &str| {
+        lines
+            .iter()
+            .filter(|(line, answer)| word(line) == command && answer.unwrap().starts_with(start))
+            .count()
+    };
+    for (command, start) in [
+        ("forecast", "gates "),
+        ("build", "gates "),
+        ("check", "gates "),
+        ("trim", "length 0"),
+        ("trim", "length 64"),
+        ("run", "output 0,"),
+        ("run", "output 1,"),
+        ("run", "output 2,"),
+        ("encode", "done"),
+        ("decode", "number "),
+    ] {
+        assert!(count(command, start) >= 10, "{command} {start}");
+    }
+    for form in [", lent checksum ", ", lent -", ", lent 0"] {
+        assert!(text.contains(form), "{form}");
+    }
+}
+
+/// Head and gates alike: each field of the bench card's table, damaged alone.
+#[test]
+fn each_field_of_a_table_is_turned_away() {
+    let script = cases();
+    let text = answers(&script);
+    let lines = lines_with_answers(&script, &text);
+    let mut found = BTreeSet::new();
+    for pair in lines.windows(2) {
+        let place = pair[0].0.strip_prefix("set ").map(word);
+        if let (Some(place), "check") = (place, pair[1].0) {
+            let place: usize = place.parse().unwrap();
+            found.extend(refusal(pair[1].1.unwrap()).map(|number| (place, number)));
+        }
+    }
+    let head = [(0, 2), (1, 2), (2, 3), (3, 4), (4, 13), (5, 5), (7, 14)];
+    assert!(head.iter().all(|at| found.contains(at)));
+    for start in (8..64).step_by(8) {
+        for (field, number) in [(0, 2), (1, 2), (2, 16), (3, 5), (5, 17), (7, 17)] {
+            let at = (start + field, number);
+            assert!(found.contains(&at), "{at:?}");
+        }
+    }
+}
+
+/// Each kind's operands a and b are turned away, and let pass.
+#[test]
+fn each_operand_of_each_kind_is_turned_away() {
+    let script = cases();
+    let text = answers(&script);
+    let lines = lines_with_answers(&script, &text);
+    let mut refused = BTreeSet::new();
+    let mut passed = BTreeSet::new();
+    for pair in lines.windows(2) {
+        let Some(table) = pair[0].0.strip_prefix("table ").map(bytes) else {
+            continue;
+        };
+        // The tables of one third gate after LEFT 0 and RIGHT 1 at p=7.
+        if table.len() != 32 || table[2] != 7 || pair[1].0 != "check" {
+            continue;
+        }
+        let kind = table[26];
+        match refusal(pair[1].1.unwrap()) {
+            None => drop(passed.insert(kind)),
+            Some(number) => {
+                assert_eq!(number, 17);
+                let a_is_small = table[28] < 2 && table[29] == 0;
+                refused.insert((kind, if a_is_small { 'b' } else { 'a' }));
+            }
+        }
+    }
+    assert_eq!(passed.len(), 7);
+    assert_eq!(refused.len(), 14);
+}
+
+/// Where the table is a built one, its output is what the numbers say.
+#[test]
+fn outputs_are_what_the_numbers_say() {
+    let script = cases();
+    let text = answers(&script);
+    let mut card = Vec::new();
+    let mut compared = 0;
+    for (line, answer) in lines_with_answers(&script, &text) {
+        let words: Vec<&str> = line.split(' ').collect();
+        match words[0] {
+            "build" => card = bytes(words[2]),
+            "table" | "set" | "cut" => card.clear(),
+            "run" => {
+                let Some(output) = answer.unwrap().strip_prefix("output ") else {
+                    continue;
+                };
+                let said = holds(&card, &bytes(words[2]), &bytes(words[3]));
+                if let Some(said) = said {
+                    assert!(output.starts_with(if said { "1," } else { "0," }), "{line}");
+                    compared += 1;
+                }
+            }
+            _ => {}
+        }
+    }
+    assert!(compared > 900, "{compared}");
+}
+
+/// Each relation is built at each of these primes, and eight conditions are.
+#[test]
+fn relations_primes_and_conditions_come_up() {
+    let script = cases();
+    let text = answers(&script);
+    let mut relations = BTreeSet::new();
+    let mut counts = BTreeSet::new();
+    for (line, answer) in lines_with_answers(&script, &text) {
+        if word(line) == "build" && answer.unwrap().starts_with("gates") {
+            let card = bytes(line.split(' ').nth(2).unwrap());
+            counts.insert(card[4]);
+            for condition in card[6..].chunks(CONDITION_BYTES) {
+                relations.insert((card[2], condition[2]));
+            }
+        }
+    }
+    for p in [3, 5, 7, 11, 13, 17, 31, 127, 251] {
+        for relation in 1..=6 {
+            assert!(relations.contains(&(p, relation)), "{p} {relation}");
+        }
+    }
+    assert!((1..=8).all(|count| counts.contains(&count)));
+}
+
+#[test]
+fn the_longest_table_is_run() {
+    let text = answers(&cases());
+    assert!(text.contains("check: gates 8191 products "));
+    assert!(text.contains("trim: length 65536\n"));
+    assert!(text.contains("run 8190 07070707070707070707070707070707 "));
+    assert!(text.contains("run 8191 07070707070707070707070707070707 "));
+}
