@@ -92,8 +92,7 @@ fn put_conditions(
     depths: &mut [u16],
 ) -> Pen
     requires { ⌜ Readable count (now records) × (3 ≤ p) × (p % 2 ≡ 1) × (p < 256) × (count ≤ length (now gates)) × (count ≤ length (now depths)) ⌝ }
-    requires { ⌜ (8 * (length (segments p 0 (conditionsOf count (now records))) + 1) ≤ length (now table)) × (length (segments p 0 (conditionsOf count (now records))) ≤ mostGates) ⌝ }
-    requires { ⌜ ((anyOrder (conditionsOf count (now records)) ≡ true) → Constants p (now constants) × Deep p (now powers) (powerCount p + 1)) × (powerCount p < length (now powers)) ⌝ }
+    requires { ⌜ (8 * (length (segments p 0 (conditionsOf count (now records))) + 1) ≤ length (now table)) × (length (segments p 0 (conditionsOf count (now records))) ≤ mostGates) × ((anyOrder (conditionsOf count (now records)) ≡ true) → Constants p (now constants) × Deep p (now powers) (powerCount p + 1)) × (powerCount p < length (now powers)) ⌝ }
     ensures wrote { λ r. ⌜ Wrote (now (table .entry)) fresh (segments p 0 (conditionsOf count (now (records .entry)))) (now (table .exit)) r ⌝ }
     ensures moves { λ r. ⌜ Moved fresh (length (segments p 0 (conditionsOf count (now (records .entry))))) r ⌝ }
     ensures outputs { λ r. ⌜ nodes (take count (now (gates .exit))) (take count (now (depths .exit))) ≡ outputsFrom p 0 (conditionsOf count (now (records .entry))) ⌝ }

@@ -86,7 +86,3 @@ digits-share n digit few small =
   where
     share : (x : ℕ) → x ≤ mostInDigit → n * x ≤ 7200
     share x h = omega (arith, mul-le-mul-left n h)
-
--- the levels of a tree over at most 65536
-pub few-levels : (n : ℕ) → n ≤ 65536 → clog n ≤ 16
-few-levels n h = clog-iff n 16 .0 h

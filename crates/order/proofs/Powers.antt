@@ -13,7 +13,7 @@ use lib.ListN.{length, getD, set}
 use lib.Seq.{getD-set-same, getD-set-other}
 use Rattle.field.specs.Logarithm.{clog}
 use Rattle.field.specs.Polynomials.{everySecond}
-use Rattle.field.proofs.Logarithm.{clog-iff, clog-small}
+use Rattle.field.proofs.Logarithm.{clog-small}
 use Rattle.comparison.specs.OrderDigit.{half, ascending, powerOf, powerCount, powerGate}
 use Rattle.comparison.proofs.Powers.{gate-low, gate-high}
 use Rattle.order.specs.Powers.{IsWritten, Deep}
@@ -53,9 +53,6 @@ place-within p i top = go (decLe i (half p))
     go (no a) = omega (arith, gate-high p 0 i (lt-of-not-le a))
 
 -- ---- depths
-
-pub shallow : (i : ℕ) → i ≤ 256 → clog i ≤ 8
-shallow i h = clog-iff i 8 .0 h
 
 -- z stands at place 0 and has depth 0
 pub deep-start : (p : ℕ) (depths : List ℕ) → 3 ≤ p → getD depths 0 0 ≡ 0 → Deep p depths 1

@@ -99,8 +99,8 @@ put-condition-requires c κs =
     let l = turn r in
     let s = start l in
     let order = own-order _ _ _ _ _ _ _ _ _ _ (less r) (l .loop .inv .0) (condition r) (read r) in (
-      (omega (arith, fit r, l .loop .inv .0 .counts, l .loop .inv .1, s .pre .1 .0), s .pre .0 .1, s .pre .0 .2, s .pre .0 .3, slotted r),
-      (λ h. s .pre .1 .1 .0 (order h), s .pre .1 .1 .1),
+      (omega (arith, fit r, l .loop .inv .0 .counts, l .loop .inv .1, s .pre .1 .0, s .pre .1 .1), s .pre .0 .1, s .pre .0 .2, s .pre .0 .3, slotted r),
+      (λ h. s .pre .1 .2 (order h), s .pre .1 .3),
     )
 
 mul-gates : tie.Need-mul-gates Inv-loop μ-loop

@@ -56,7 +56,7 @@ put-conditions-requires c κs =
     let room = room-said _ _ _ _ (s .pre .0) in
     rw (w .wide .ensures .0, records-lent) (
       (readable-said _ _ _ _ (s .pre .0), facts .0, facts .1, omega (arith, facts .2), omega (arith, counts, s .pre .1), omega (arith, counts, s .pre .1)),
-      ((omega (arith, room, h), omega (arith, room)), (rw (w .wide .ensures .0, records-lent) at (o .prepare-order .ensures), omega (arith, facts .2, s .pre .1))),
+      (omega (arith, room, h), omega (arith, room), rw (w .wide .ensures .0, records-lent) at (o .prepare-order .ensures), omega (arith, facts .2, s .pre .1)),
     )
 
 put-product-tree-requires : tie.Need-put-product-tree-requires
