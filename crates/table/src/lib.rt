@@ -295,6 +295,7 @@ fn check_gates(table: &[u8], head: TableHead, count: usize, depths: &mut [u16]) 
     requires { ⌜ (1 ≤ count) × (count ≤ mostGates) × (8 * (count + 1) ≤ length (now table)) × (count ≤ length (now depths)) ⌝ }
     ensures { λ r. ⌜ reportAnswer r ≡ reporting (headIs head) (readGates (headIs head) 0 count (drop 8 (now (table .entry)))) ⌝ }
 {
+    let last = count - 1;
     let mut products: u32 = 0;
     let mut squares: u32 = 0;
     let mut k = 0;
@@ -319,7 +320,7 @@ fn check_gates(table: &[u8], head: TableHead, count: usize, depths: &mut [u16]) 
         products: products as u16,
         squares: squares as u16,
         cost: cost_of(products, squares, head.weight),
-        depth: Depth(depths[count - 1]),
+        depth: Depth(depths[last]),
     })
 }
 

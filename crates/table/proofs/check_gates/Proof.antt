@@ -17,12 +17,15 @@ use Rattle.table.proofs.check_gates.Statement.{statement}
 use Rattle.table.proofs.check_gates.Tie as tie
 
 abbrev Inv-loop : tie.InvT-loop
-Inv-loop table head count depths₀ products₀ squares₀ k₀ depths products squares k =
+Inv-loop table head count depths₀ last products₀ squares₀ k₀ depths products squares k =
     Checks (headIs head) table count k depths products squares (reporting (headIs head) (readGates (headIs head) 0 count (drop 8 table)))
     × (length depths ≡ length depths₀)
 
 abbrev μ-loop : tie.MeasureT-loop
-μ-loop table head count depths₀ products₀ squares₀ k₀ depths products squares k = count - k
+μ-loop table head count depths₀ last products₀ squares₀ k₀ depths products squares k = count - k
+
+sub-last : tie.Need-sub-last Inv-loop μ-loop
+sub-last c = search needs
 
 loop-holds : tie.Need-loop-holds Inv-loop μ-loop
 loop-holds c = (starts _ _ _ _ (omega arith), refl)
@@ -73,7 +76,7 @@ after : (c : tie.After-known-told Inv-loop μ-loop) → (
     let l = c .before .before .before .before .before .before .before in
     let a = l .before .before .before .args in
     let x = c .before .depth .given .0 in
-    Inv-loop (a .table .now) (a .head) (a .count) (a .depths .now) 0 0 0 (set (l .loop .depths) (l .loop .k) (x .0)) (l .loop .products + x .1 .0) (l .loop .squares + x .1 .1 .0) (l .loop .k + 1)
+    Inv-loop (a .table .now) (a .head) (a .count) (a .depths .now) (a .count - 1) 0 0 0 (set (l .loop .depths) (l .loop .k) (x .0)) (l .loop .products + x .1 .0) (l .loop .squares + x .1 .1 .0) (l .loop .k + 1)
     )
 after c =
     let r = c .before .before .before in
@@ -115,23 +118,20 @@ loop-less c = search needs
 loop-again : tie.Need-loop-again Inv-loop μ-loop
 loop-again c = after c
 
-cast-t23 : tie.Need-cast-t23 Inv-loop μ-loop
-cast-t23 c = search needs
-
 cast-t24 : tie.Need-cast-t24 Inv-loop μ-loop
 cast-t24 c = search needs
 
 cast-t25 : tie.Need-cast-t25 Inv-loop μ-loop
 cast-t25 c = search needs
 
+cast-t26 : tie.Need-cast-t26 Inv-loop μ-loop
+cast-t26 c = search needs
+
 cost-of-requires : tie.Need-cost-of-requires Inv-loop μ-loop
 cost-of-requires c κs =
     let l = c .before in
     let s = l .before .before .before in
     (omega (arith, l .loop .inv .0 .few, l .loop .inv .0 .most, s .pre .1), omega (arith, l .loop .inv .0 .few, l .loop .inv .0 .most, s .pre .1))
-
-sub-t27 : tie.Need-sub-t27 Inv-loop μ-loop
-sub-t27 c = search needs
 
 mul-t28 : tie.Need-mul-t28 Inv-loop μ-loop
 mul-t28 c = search needs
@@ -155,6 +155,7 @@ check-gates-spec =
     (tie.spec
     Inv-loop
     μ-loop
+    sub-last
     loop-holds
     add-at
     mul-at
@@ -175,11 +176,10 @@ check-gates-spec =
     add-k
     loop-less
     loop-again
-    cast-t23
     cast-t24
     cast-t25
+    cast-t26
     cost-of-requires
-    sub-t27
     mul-t28
     slice-read-t30
     same-length-2
