@@ -2,6 +2,7 @@
 use Prim.Native.Nat.{ℕ}
 use Rattle.answer.specs.Numbers.{refusalNumber}
 use Rattle.answer.specs.Outcome.{Answer, refused, accepted}
+use Rattle.answer.specs.declared.Report as declared
 use Rattle.answer.specs.declared.Reported.{Reported}
 use Rattle.answer.specs.declared.Reported.the-variants.{Success, Refused}
 
@@ -12,13 +13,17 @@ pub record Report : Type 0 where
   pub cost : ℕ
   pub depth : ℕ
 
--- the refusal's number, or the five values, for each case of the enum
-abbrev pub reportAnswer : Reported → Answer Report
-reportAnswer (Success told) = accepted (record {
+-- the five values of a report in the code
+abbrev pub reportOf : declared.Report → Report
+reportOf told = record {
   gates = told .gates;
   products = told .products;
   squares = told .squares;
   cost = told .cost .0;
   depth = told .depth .0;
-})
+}
+
+-- the refusal's number, or the five values, for each case of the enum
+abbrev pub reportAnswer : Reported → Answer Report
+reportAnswer (Success told) = accepted (reportOf told)
 reportAnswer (Refused why) = refused (refusalNumber why)

@@ -1,10 +1,8 @@
--- What the functions put that read a table's records and an answer's report.
+-- What the functions put that read a table's records.
 use Prim.Native.Nat.{ℕ, zero, suc}
 use mathlib.Core.List.{List, [], _++_}
 use lib.ListN.{drop}
 use Rattle.answer.specs.Outcome.{onAnswer}
-use Rattle.answer.specs.Report as answer
-use Rattle.answer.specs.declared.Report.{Report}
 use Rattle.circuit.specs.Bytes.{byte, u16At}
 use Rattle.circuit.specs.Gate.{gateOf}
 use Rattle.listing.specs.Lines.{lineOf}
@@ -22,13 +20,3 @@ recordLine k bytes = lineOf k (nameOf (byte bytes 2)) (u16At bytes 4) (u16At byt
 unfoldable pub recordLines : ℕ → ℕ → List ℕ → List ℕ
 recordLines k zero bytes = []
 recordLines k (suc count) bytes = recordLine k bytes ++ recordLines (suc k) count (drop 8 bytes)
-
--- the five numbers of a report
-abbrev pub countsOf : Report → answer.Report
-countsOf told = record {
-  gates = told .gates;
-  products = told .products;
-  squares = told .squares;
-  cost = told .cost .0;
-  depth = told .depth .0;
-}

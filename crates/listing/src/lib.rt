@@ -1,28 +1,30 @@
 // Listings: the lines that are printed of a card.
 use answer::Report;
 use answer::Reported;
+use table::MOST_GATES;
 use table::RECORD;
 ghost use mathlib.Core.Path.{_≡_};
 ghost use Prim.Native.Nat.{_+_, _*_, _≤_};
 ghost use lib.ListN.{length, drop};
 ghost use lib.Seq.{sets};
+ghost use Rattle.answer.specs.Report.{reportOf};
 ghost use Rattle.circuit.specs.Table.{mostGates};
 ghost use Rattle.query.specs.Outcomes.{building};
 ghost use Rattle.listing.specs.Lines.{labelled, summaryLine, refusalLine};
 ghost use Rattle.listing.specs.Listing.{listing};
 ghost use Rattle.listing.specs.Promises.{mostListing};
 ghost use Rattle.listing.specs.Putting.{Puts, Fits};
-ghost use Rattle.listing.specs.Records.{nameOf, recordLine, recordLines, countsOf};
+ghost use Rattle.listing.specs.Records.{nameOf, recordLine, recordLines};
 ghost use Rattle.listing.specs.Text.{decimal};
 
-// The bytes of the longest card: a head of 6 and eight conditions of 4.
-pub const MOST_CARD: usize = 6 + 4 * 8;
+// The bytes of the longest card.
+pub const MOST_CARD: usize = card::HEAD + card::RECORD * card::MOST_CONDITIONS;
 
-// The bytes of the longest table: a head and 8191 gates, of 8 each.
-pub const MOST_TABLE: usize = 8 * (8191 + 1);
+// The bytes of the longest table.
+pub const MOST_TABLE: usize = RECORD * (MOST_GATES + 1);
 
-// The bytes of the longest listing: a summary of at most 61 and 8191 lines of at most 21.
-pub const MOST_LISTING: usize = 61 + 21 * 8191;
+// The bytes of the longest listing: a summary of at most 61 and gate lines of at most 21.
+pub const MOST_LISTING: usize = 61 + 21 * MOST_GATES;
 
 // A text. This function and those below put one at a place of out, and answer the place after it.
 fn put_text(out: &mut [u8], at: usize, text: &[u8]) -> usize
@@ -109,8 +111,8 @@ fn put_gate_lines(out: &mut [u8], at: usize, table: &[u8], count: u16) -> usize
 
 // The counts of a table, in a line.
 fn put_summary(out: &mut [u8], at: usize, told: Report) -> usize
-    requires { ⌜ Fits (now out) at (summaryLine (countsOf told)) ⌝ }
-    ensures { λ r. ⌜ Puts (now (out .entry)) at (summaryLine (countsOf told)) (now (out .exit)) r ⌝ }
+    requires { ⌜ Fits (now out) at (summaryLine (reportOf told)) ⌝ }
+    ensures { λ r. ⌜ Puts (now (out .entry)) at (summaryLine (reportOf told)) (now (out .exit)) r ⌝ }
 {
     let products = put_labelled(out, at, b"gates ", told.gates as u32);
     let squares = put_labelled(out, products, b" products ", told.products as u32);

@@ -10,30 +10,28 @@ abbrev pub isAccepted : {A : Type 0} → Answer A → Bool
 isAccepted (refused number) = false
 isAccepted (accepted a) = true
 
--- ---- what a lent number holds afterwards: the value answered, or, on a refusal, what it held
+-- ---- what a lent number holds afterwards: a value of what was answered, or, on a refusal, what it held
+
+abbrev pub after : {A : Type 0} → (A → ℕ) → ℕ → Answer A → ℕ
+after value held (refused number) = held
+after value held (accepted a) = value a
 
 -- the number that Decode answers, and the output that Run does
 abbrev pub numberAfter : ℕ → Answer ℕ → ℕ
-numberAfter held (refused number) = held
-numberAfter held (accepted x) = x
+numberAfter = after (λ x. x)
 
 -- "Success answers G, products, squares, cost, depth"
 abbrev pub gatesAfter : ℕ → Answer Report → ℕ
-gatesAfter held (refused number) = held
-gatesAfter held (accepted told) = told .gates
+gatesAfter = after (λ told. told .gates)
 
 abbrev pub productsAfter : ℕ → Answer Report → ℕ
-productsAfter held (refused number) = held
-productsAfter held (accepted told) = told .products
+productsAfter = after (λ told. told .products)
 
 abbrev pub squaresAfter : ℕ → Answer Report → ℕ
-squaresAfter held (refused number) = held
-squaresAfter held (accepted told) = told .squares
+squaresAfter = after (λ told. told .squares)
 
 abbrev pub costAfter : ℕ → Answer Report → ℕ
-costAfter held (refused number) = held
-costAfter held (accepted told) = told .cost
+costAfter = after (λ told. told .cost)
 
 abbrev pub depthAfter : ℕ → Answer Report → ℕ
-depthAfter held (refused number) = held
-depthAfter held (accepted told) = told .depth
+depthAfter = after (λ told. told .depth)

@@ -33,7 +33,7 @@ pub const GATE_MARK: [u8; 2] = [0x47, 0x54];
 pub const RECORD: usize = 8;
 
 // The most gates of a table.
-const MOST_GATES: usize = 8191;
+pub const MOST_GATES: usize = 8191;
 
 // The gates of a small table.
 const FEW_GATES: usize = 256;
@@ -333,6 +333,7 @@ fn check_few(table: &[u8], head: TableHead, count: usize) -> Reported
     check_gates(table, head, count, &mut depths)
 }
 
+// The same with an array for as many gates as a table may have.
 fn check_many(table: &[u8], head: TableHead, count: usize) -> Reported
     requires { ⌜ (1 ≤ count) × (count ≤ mostGates) × (8 * (count + 1) ≤ length (now table)) ⌝ }
     ensures { λ r. ⌜ reportAnswer r ≡ reporting (headIs head) (readGates (headIs head) 0 count (drop 8 (now (table .entry)))) ⌝ }

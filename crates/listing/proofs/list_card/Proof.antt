@@ -12,7 +12,8 @@ use Rattle.answer.specs.Report.{reportAnswer}
 use Rattle.listing.specs.Lines.{summaryLine, refusalLine}
 use Rattle.listing.specs.Listing.{listing}
 use Rattle.listing.specs.Putting.{Fits}
-use Rattle.listing.specs.Records.{recordLines, countsOf}
+use Rattle.answer.specs.Report.{reportOf}
+use Rattle.listing.specs.Records.{recordLines}
 use Rattle.listing.proofs.Building.{Listed, lists-table, lists-refusal}
 use Rattle.listing.proofs.Lengths.{short-listing}
 use Rattle.listing.proofs.Putting.{same-text, then, left, begins}
@@ -29,7 +30,7 @@ module _ (c : tie.After-told) where
   start = c .before .before .before .before .before .before .before .before .before
 
   abbrev counts : answer.Report
-  counts = countsOf (c .told .given .0 .0)
+  counts = reportOf (c .told .given .0 .0)
 
   abbrev table : List ℕ
   table = c .before .before .before .before .build .last .1 .0
