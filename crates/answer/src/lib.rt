@@ -1,5 +1,6 @@
 // What the operations answer: why one turns its input away, and the report on a table.
 ghost use mathlib.Core.Path.{_≡_};
+ghost use Prim.Native.Nat.{_+_, _*_, _<_, max};
 ghost use Rattle.answer.specs.Numbers.{refusalNumber};
 
 // Why an operation turns its input away: one name for each number of document 01, "Operations and
@@ -82,4 +83,19 @@ pub struct Report {
 pub enum Reported {
     Success(Report),
     Refused(Refusal),
+}
+
+// The larger of two depths.
+pub fn deeper(a: u16, b: u16) -> u16
+    ensures { λ r. ⌜ r ≡ max a b ⌝ }
+{
+    if a < b { b } else { a }
+}
+
+// 100 for each product and the weight for each square.
+pub fn cost_of(products: u32, squares: u32, weight: u8) -> Cost
+    requires { ⌜ (products < 65536) × (squares < 65536) ⌝ }
+    ensures { λ r. ⌜ r .0 ≡ 100 * products + weight * squares ⌝ }
+{
+    Cost(100 * products + (weight as u32) * squares)
 }

@@ -19,11 +19,12 @@ use Rattle.comparison.specs.Writing.{conditionSegment}
 use Rattle.query.specs.Reading.{readCondition, readConditions}
 use Rattle.card.proofs.Conditions.{recordAt, lentAt}
 use Rattle.writer.specs.declared.Pen.{Pen}
-use Rattle.writer.specs.Factors.{nodes}
+use Rattle.tree.specs.Factors.{nodes}
 use Rattle.writer.specs.Pen.{fresh, Wrote, Moved}
-use Rattle.writer.proofs.Factors.{added}
+use Rattle.tree.proofs.Factors.{added}
 use Rattle.writer.proofs.Writing.{none, same-gates, then}
-use Rattle.builder.specs.Conditions.{segments, outputsFrom, InSlots, conditionsOf, anyOrder, Readable}
+use Rattle.builder.specs.Conditions.{segments, outputsFrom, conditionsOf, anyOrder, Readable}
+use Rattle.condition.specs.Condition.{InSlots}
 use Rattle.builder.proofs.Rest.{others, others-read, split}
 
 -- k records of count are written

@@ -39,11 +39,12 @@ use Rattle.query.proofs.Promises.{exact-size, output-tells}
 use Rattle.query.proofs.Reading.{reads}
 use Rattle.card.specs.Parts.{Summary, summary, readSummary}
 use Rattle.writer.specs.declared.Pen.{Pen}
-use Rattle.writer.specs.Factors.{Shallow}
+use Rattle.tree.specs.Factors.{Shallow}
 use Rattle.writer.specs.Pen.{fresh, Wrote}
 use Rattle.writer.proofs.Writing.{same-gates, then, whole}
 use Rattle.builder.specs.Buildable.{Buildable, reportIs}
-use Rattle.builder.specs.Conditions.{segments, outputsFrom, InSlots, conditionsOf, Readable}
+use Rattle.builder.specs.Conditions.{segments, outputsFrom, conditionsOf, Readable}
+use Rattle.condition.specs.Condition.{InSlots}
 use Rattle.builder.proofs.Conditions.{all-gates, all-nodes}
 
 module _ (bytes : List ℕ) (card : Card) (e : readCard bytes ≡ accepted card) where

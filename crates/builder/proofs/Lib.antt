@@ -4,4 +4,3 @@ pub mod Rest
 pub mod Orders
 pub mod Adding
 pub mod Building
-pub mod Relations

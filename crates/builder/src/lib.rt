@@ -1,4 +1,4 @@
-// Building tables: Build.
+// Build.
 use answer::Depth;
 use answer::Refusal;
 use answer::Report;
@@ -6,8 +6,6 @@ use answer::Reported;
 use card::CardHead;
 use card::CardRead;
 use card::ConditionRead;
-use card::Relation;
-use writer::Node;
 use writer::Pen;
 use writer::Slots;
 use writer::Written;
@@ -18,67 +16,17 @@ ghost use lib.ListN.{length, take};
 ghost use Rattle.answer.specs.Outcome.{accepted};
 ghost use Rattle.answer.specs.Report.{reportAnswer};
 ghost use Rattle.answer.specs.declared.Reported.the-variants.{Success};
-ghost use Rattle.field.specs.Bit.{bit};
-ghost use Rattle.digits.specs.Number.{mostDigits};
 ghost use Rattle.circuit.specs.Table.{mostGates};
 ghost use Rattle.comparison.specs.OrderDigit.{powerCount};
-ghost use Rattle.comparison.specs.Relation.{isOrder};
-ghost use Rattle.comparison.specs.Writing.{conditionSegment};
 ghost use Rattle.order.specs.Constants.{Constants};
-ghost use Rattle.order.specs.Powers.{Deep};
-ghost use Rattle.writer.specs.Factors.{nodes};
-ghost use Rattle.writer.specs.Nodes.{nodeIs};
-ghost use Rattle.writer.specs.Pen.{fresh, Wrote, Room, Moved};
+ghost use Rattle.powers.specs.Powers.{Deep};
+ghost use Rattle.tree.specs.Factors.{nodes};
+ghost use Rattle.writer.specs.Pen.{fresh, Wrote, Moved};
 ghost use Rattle.query.specs.Card.{mostConditions};
 ghost use Rattle.query.specs.Outcomes.{building};
-ghost use Rattle.card.specs.Parts.{relationIs, headIs, readSummary};
+ghost use Rattle.card.specs.Parts.{headIs, readSummary};
 ghost use Rattle.builder.specs.Buildable.{Buildable, reportIs};
-ghost use Rattle.builder.specs.Conditions.{conditionIs, flipGates, flipNode, segments, outputsFrom, InSlots, conditionsOf, anyOrder, Readable};
-
-// A condition with the FLIP of its output at the end, or as it is.
-fn put_ending(table: &mut [u8], written: Written, flipped: bool) -> Written
-    requires { ⌜ Room (now table) (written .pen) (bit flipped) ⌝ }
-    ensures wrote { λ r. ⌜ Wrote (now (table .entry)) (written .pen) (flipGates flipped (written .node .gate)) (now (table .exit)) (r .pen) ⌝ }
-    ensures moves { λ r. ⌜ Moved (written .pen) (bit flipped) (r .pen) ⌝ }
-    ensures output { λ r. ⌜ nodeIs (r .node) ≡ flipNode flipped (written .pen .next) (nodeIs (written .node)) ⌝ }
-{
-    if flipped {
-        let pen = written.pen;
-        let node = Node {
-            gate: pen.next,
-            depth: written.node.depth,
-        };
-        let flip = writer::put_flip(table, pen, written.node.gate);
-        return Written { pen: flip, node };
-    }
-    written
-}
-
-// One condition, from the next free gate number on. The node is its output.
-fn put_condition(
-    table: &mut [u8],
-    pen: Pen,
-    p: u16,
-    relation: Relation,
-    slots: Slots,
-    constants: &[u8],
-    powers: &[u16],
-) -> Written
-    requires { ⌜ Room (now table) pen (length (conditionSegment p (conditionIs relation slots) (pen .next) .gates)) × (3 ≤ p) × (p % 2 ≡ 1) × (p < 256) × InSlots (conditionIs relation slots) ⌝ }
-    requires { ⌜ ((isOrder (relationIs relation) ≡ true) → Constants p (now constants) × Deep p (now powers) (powerCount p + 1)) × (powerCount p < length (now powers)) ⌝ }
-    ensures wrote { λ r. ⌜ Wrote (now (table .entry)) pen (conditionSegment p (conditionIs relation slots) (pen .next) .gates) (now (table .exit)) (r .pen) ⌝ }
-    ensures moves { λ r. ⌜ Moved pen (length (conditionSegment p (conditionIs relation slots) (pen .next) .gates)) (r .pen) ⌝ }
-    ensures output { λ r. ⌜ nodeIs (r .node) ≡ conditionSegment p (conditionIs relation slots) (pen .next) .output ⌝ }
-{
-    let flipped = card::is_flipped(relation);
-    if card::is_order(relation) {
-        let backward = card::is_backward(relation);
-        let order = order::put_order(table, pen, p, backward, slots, constants, powers);
-        return put_ending(table, order, flipped);
-    }
-    let equality = equality::put_equality(table, pen, p, slots);
-    put_ending(table, equality, flipped)
-}
+ghost use Rattle.builder.specs.Conditions.{segments, outputsFrom, conditionsOf, anyOrder, Readable};
 
 // The conditions in order; their outputs go into gates and depths.
 fn put_conditions(
@@ -108,7 +56,15 @@ fn put_conditions(
                     left: slot,
                     right: slot,
                 };
-                let written = put_condition(table, pen, p, relation, slots, constants, powers);
+                let written = condition::put_condition(
+                    table,
+                    pen,
+                    p,
+                    relation,
+                    slots,
+                    constants,
+                    powers,
+                );
                 gates[k] = written.node.gate;
                 depths[k] = written.node.depth;
                 pen = written.pen;
@@ -134,7 +90,7 @@ fn has_order(records: &[u8], count: usize) -> bool
                 relation,
                 digits: _,
             } => {
-                if card::is_order(relation) {
+                if relations::is_order(relation) {
                     return true;
                 }
             }
@@ -151,8 +107,8 @@ fn prepare_order(records: &[u8], count: usize, prime: u8, constants: &mut [u8], 
     ensures { λ _. ⌜ ((anyOrder (conditionsOf count (now (records .entry))) ≡ true) → Constants prime (now (constants .exit)) × Deep prime (now (powers .exit)) (powerCount prime + 1)) ⌝ }
 {
     if has_order(records, count) {
-        field::put_order_constants(prime, constants);
-        order::put_power_depths(prime as u16, powers);
+        constants::put_order_constants(prime, constants);
+        powers::put_power_depths(prime as u16, powers);
     }
 }
 
@@ -166,7 +122,7 @@ fn report_of(written: Written, weight: u8) -> Report
         gates: pen.next,
         products: pen.products as u16,
         squares: pen.squares as u16,
-        cost: table::cost_of(pen.products, pen.squares, weight),
+        cost: answer::cost_of(pen.products, pen.squares, weight),
         depth: Depth(written.node.depth),
     }
 }
@@ -187,7 +143,7 @@ fn write_table(
     ensures answers { λ r. ⌜ reportAnswer (Success r) ≡ building (now (card .entry)) (now (table .entry)) .answer ⌝ }
     ensures leaves { λ r. ⌜ now (table .exit) ≡ building (now (card .entry)) (now (table .entry)) .lent ⌝ }
 {
-    let conditions = table::wide(head.count);
+    let conditions = arithmetic::wide(head.count);
     let records = &card[card::HEAD..];
     prepare_order(records, conditions, head.prime, constants, powers);
     writer::put_head(table, head.prime, head.weight, head.slots, count);
@@ -201,7 +157,7 @@ fn write_table(
         gates,
         depths,
     );
-    let tree = writer::put_product_tree(table, pen, gates, depths, conditions);
+    let tree = tree::put_product_tree(table, pen, gates, depths, conditions);
     report_of(tree, head.weight)
 }
 
@@ -211,12 +167,12 @@ fn build_read(card: &[u8], head: CardHead, table: &mut [u8]) -> Reported
     ensures answers { λ r. ⌜ reportAnswer r ≡ building (now (card .entry)) (now (table .entry)) .answer ⌝ }
     ensures leaves { λ r. ⌜ now (table .exit) ≡ building (now (card .entry)) (now (table .entry)) .lent ⌝ }
 {
-    let told = card::forecast_read(card, head);
-    if table.len() < table::RECORD * (told.gates as usize + 1) {
+    let told = forecast::forecast_read(card, head);
+    if table.len() < records::RECORD * (told.gates as usize + 1) {
         return Reported::Refused(Refusal::TableBufferTooSmall);
     }
-    let mut constants = [0u8; field::MOST_CONSTANTS];
-    let mut powers = [0u16; order::MOST_POWERS];
+    let mut constants = [0u8; constants::MOST_CONSTANTS];
+    let mut powers = [0u16; powers::MOST_POWERS];
     let mut gates = [0u16; card::MOST_CONDITIONS];
     let mut depths = [0u16; card::MOST_CONDITIONS];
     Reported::Success(write_table(

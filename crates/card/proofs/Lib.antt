@@ -2,6 +2,3 @@
 pub mod NoRelation
 pub mod Conditions
 pub mod Summary
-pub mod Counting
-pub mod AddingUp
-pub mod Forecasting

@@ -1,3 +1,2 @@
--- Conditions and cards as the code holds them, and what the functions within Forecast mean. What Forecast has to answer is in `query`.
+-- Only serves contracts of functions inside: conditions and cards, as the code holds them. What a card says is in `query`.
 pub mod Parts
-pub mod Counting

@@ -7,11 +7,10 @@ use Rattle.answer.specs.Numbers.{refusalNumber}
 use Rattle.answer.specs.Outcome.{Answer, refused, accepted, refuse, onAnswer}
 use Rattle.digits.specs.Number.{mostDigits, wrongCount}
 use Rattle.comparison.specs.Condition.{Condition}
-use Rattle.comparison.specs.Relation as relation
+use Rattle.comparison.specs.Relation.{Relation}
 use Rattle.query.specs.Card.{Card, slotsOf}
 use Rattle.query.specs.Reading.{readConditions, readCard}
-use Rattle.card.specs.declared.Relation.{Relation}
-use Rattle.card.specs.declared.Relation.the-variants.{Less, AtMost, Greater, AtLeast, Equal, NotEqual}
+use Rattle.relations.specs.Relations.{relationIs}
 use Rattle.card.specs.declared.ConditionRead.{ConditionRead}
 use Rattle.card.specs.declared.ConditionRead.the-variants as conditionRead
 use Rattle.card.specs.declared.SlotsRead.{SlotsRead}
@@ -20,17 +19,8 @@ use Rattle.card.specs.declared.CardHead.{CardHead}
 use Rattle.card.specs.declared.CardRead.{CardRead}
 use Rattle.card.specs.declared.CardRead.the-variants as cardRead
 
--- the relation of each name
-abbrev pub relationIs : Relation → relation.Relation
-relationIs Less = relation.Less
-relationIs AtMost = relation.AtMost
-relationIs Greater = relation.Greater
-relationIs AtLeast = relation.AtLeast
-relationIs Equal = relation.Equal
-relationIs NotEqual = relation.NotEqual
-
 -- a condition on the n slots from one on, on both sides
-abbrev pub conditionAt : ℕ → relation.Relation → ℕ → Condition
+abbrev pub conditionAt : ℕ → Relation → ℕ → Condition
 conditionAt slot r n = record { relation = r; digits = n; left = slot; right = slot }
 
 -- the refusal's number, or the condition from a slot on, for each case of the enum
@@ -39,7 +29,7 @@ conditionAnswer slot (conditionRead.Read r n) = accepted (conditionAt slot (rela
 conditionAnswer slot (conditionRead.Refused why) = refused (refusalNumber why)
 
 -- "9 n", or the condition
-abbrev pub countedAs : ℕ → relation.Relation → ℕ → Answer Condition
+abbrev pub countedAs : ℕ → Relation → ℕ → Answer Condition
 countedAs slot r n = refuse (wrongCount n) (refused 9) (accepted (conditionAt slot r n))
 
 -- the digits of the next records together, or the first rule broken

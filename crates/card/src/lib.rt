@@ -1,24 +1,13 @@
-// Query cards: reading them, and Forecast.
-use answer::Depth;
+// Reading query cards.
 use answer::Refusal;
-use answer::Report;
-use answer::Reported;
+use relations::Relation;
 ghost use mathlib.Core.Path.{_≡_};
-ghost use mathlib.Core.Bool.{true, false};
-ghost use Prim.Native.Nat.{ℕ, _*_, _^_, _≤_};
+ghost use Prim.Native.Nat.{ℕ, _*_, _≤_};
 ghost use lib.ListN.{length};
-ghost use Rattle.answer.specs.Outcome.{accepted};
-ghost use Rattle.answer.specs.Report.{reportAnswer};
-ghost use Rattle.answer.specs.declared.Reported.the-variants.{Success};
-ghost use Rattle.field.specs.Logarithm.{clog};
-ghost use Rattle.digits.specs.Number.{mostDigits};
-ghost use Rattle.comparison.specs.Bits.{ones};
-ghost use Rattle.comparison.specs.Relation.{isOrder, isBackward, isFlipped};
 ghost use Rattle.query.specs.Card.{mostConditions};
 ghost use Rattle.query.specs.Reading.{readCondition};
-ghost use Rattle.query.specs.Outcomes.{forecasting};
-ghost use Rattle.card.specs.Counting.{mostInDigit, mostJoined, mostInCondition, Within, digitCounts, joinedCounts, endedCounts, conditionCounts, TotalsWithin, totalsRead, InRanges, reportFrom};
-ghost use Rattle.card.specs.Parts.{relationIs, conditionAnswer, countedAs, slotsAnswer, readSlotCount, headIs, cardAnswer, withinSlots, readSummary};
+ghost use Rattle.relations.specs.Relations.{relationIs};
+ghost use Rattle.card.specs.Parts.{conditionAnswer, countedAs, slotsAnswer, readSlotCount, headIs, cardAnswer, withinSlots, readSummary};
 
 // The marks of a head and of a condition.
 const CARD_MARK: [u8; 2] = [0xC5, 0x48];
@@ -33,16 +22,6 @@ pub const RECORD: usize = 4;
 
 // The most conditions of a card.
 pub const MOST_CONDITIONS: usize = 8;
-
-// The relations between left and right, in the order of their numbers.
-pub enum Relation {
-    Less,
-    AtMost,
-    Greater,
-    AtLeast,
-    Equal,
-    NotEqual,
-}
 
 // The relation and the digit count of a condition, or why its record is refused.
 pub enum ConditionRead {
@@ -70,68 +49,11 @@ pub enum CardRead {
     Refused(Refusal),
 }
 
-// How many gates, products and squares there are in a digit or a condition.
-struct Counts {
-    gates: u32,
-    products: u32,
-    squares: u32,
-}
-
-// The counts of all conditions together, and the sum of 2^ceil(log2 n) over them.
-struct Totals {
-    gates: u32,
-    products: u32,
-    squares: u32,
-    breadth: u32,
-}
-
-// Whether a relation compares by order.
-pub fn is_order(relation: Relation) -> bool
-    ensures { λ r. ⌜ r ≡ isOrder (relationIs relation) ⌝ }
-{
-    match relation {
-        Relation::Less => true,
-        Relation::AtMost => true,
-        Relation::Greater => true,
-        Relation::AtLeast => true,
-        Relation::Equal => false,
-        Relation::NotEqual => false,
-    }
-}
-
-// Whether a relation takes right minus left.
-pub fn is_backward(relation: Relation) -> bool
-    ensures { λ r. ⌜ r ≡ isBackward (relationIs relation) ⌝ }
-{
-    match relation {
-        Relation::Less => false,
-        Relation::AtMost => true,
-        Relation::Greater => true,
-        Relation::AtLeast => false,
-        Relation::Equal => false,
-        Relation::NotEqual => false,
-    }
-}
-
-// Whether a relation ends with FLIP.
-pub fn is_flipped(relation: Relation) -> bool
-    ensures { λ r. ⌜ r ≡ isFlipped (relationIs relation) ⌝ }
-{
-    match relation {
-        Relation::Less => false,
-        Relation::AtMost => true,
-        Relation::Greater => false,
-        Relation::AtLeast => true,
-        Relation::Equal => false,
-        Relation::NotEqual => true,
-    }
-}
-
 // A condition whose relation is known, or 9.
 fn count_digits(relation: Relation, digits: u8) -> ConditionRead
     ensures { λ r. ⌜ ((slot : ℕ) → conditionAnswer slot r ≡ countedAs slot (relationIs relation) digits) ⌝ }
 {
-    if table::outside(table::wide(digits), 1, digits::MOST_DIGITS) {
+    if records::outside(arithmetic::wide(digits), 1, digits::MOST_DIGITS) {
         return ConditionRead::Refused(Refusal::DigitCount);
     }
     ConditionRead::Read { relation, digits }
@@ -143,7 +65,7 @@ pub fn read_condition(bytes: &[u8]) -> ConditionRead
     requires { ⌜ 4 ≤ length (now bytes) ⌝ }
     ensures { λ r. ⌜ ((slot : ℕ) → conditionAnswer slot r ≡ readCondition slot (now (bytes .entry))) ⌝ }
 {
-    if table::lacks_mark(bytes, CONDITION_MARK) {
+    if records::lacks_mark(bytes, CONDITION_MARK) {
         return ConditionRead::Refused(Refusal::WrongMark);
     }
     let count = bytes[3];
@@ -183,7 +105,7 @@ fn read_conditions(records: &[u8], count: usize) -> SlotsRead
 fn limit_slots(head: CardHead) -> CardRead
     ensures { λ r. ⌜ cardAnswer r ≡ withinSlots (headIs head) ⌝ }
 {
-    if digits::MOST_DIGITS < table::wide(head.slots) {
+    if digits::MOST_DIGITS < arithmetic::wide(head.slots) {
         return CardRead::Refused(Refusal::TooManyDigits);
     }
     CardRead::Read(head)
@@ -196,29 +118,29 @@ pub fn read_card(card: &[u8]) -> CardRead
     if card.len() < HEAD {
         return CardRead::Refused(Refusal::CardTooShort);
     }
-    if table::lacks_mark(card, CARD_MARK) {
+    if records::lacks_mark(card, CARD_MARK) {
         return CardRead::Refused(Refusal::WrongMark);
     }
     let prime = card[2];
     let weight = card[3];
     let count = card[4];
     let spare = card[5];
-    if !field::is_listed(prime) {
+    if !arithmetic::is_listed(prime) {
         return CardRead::Refused(Refusal::PrimeNotListed);
     }
-    if table::outside(table::wide(weight), 50, 100) {
+    if records::outside(arithmetic::wide(weight), 50, 100) {
         return CardRead::Refused(Refusal::WeightOutOfRange);
     }
-    if table::outside(table::wide(spare), 0, 0) {
+    if records::outside(arithmetic::wide(spare), 0, 0) {
         return CardRead::Refused(Refusal::SpareNotZero);
     }
-    if table::outside(table::wide(count), 1, MOST_CONDITIONS) {
+    if records::outside(arithmetic::wide(count), 1, MOST_CONDITIONS) {
         return CardRead::Refused(Refusal::ConditionCount);
     }
-    if card.len() != HEAD + RECORD * table::wide(count) {
+    if card.len() != HEAD + RECORD * arithmetic::wide(count) {
         return CardRead::Refused(Refusal::CardLength);
     }
-    match read_conditions(&card[HEAD..], table::wide(count)) {
+    match read_conditions(&card[HEAD..], arithmetic::wide(count)) {
         SlotsRead::Read(slots) => limit_slots(CardHead {
             prime,
             weight,
@@ -226,189 +148,5 @@ pub fn read_card(card: &[u8]) -> CardRead
             slots,
         }),
         SlotsRead::Refused(why) => CardRead::Refused(why),
-    }
-}
-
-// How many bits of t are set.
-fn count_ones(t: u16) -> u16
-    ensures { λ r. ⌜ (r ≡ ones t) × (r ≤ t) ⌝ }
-{
-    let mut rest = t;
-    let mut set = 0;
-    while 0 < rest {
-        set += rest % 2;
-        rest = rest / 2;
-    }
-    set
-}
-
-// 2^ceil(log2 n).
-fn power_above(n: u8) -> u8
-    requires { ⌜ n ≤ mostDigits ⌝ }
-    ensures { λ r. ⌜ (r ≡ 2 ^ clog n) × (r ≤ 32) ⌝ }
-{
-    let mut power = 1;
-    while power < n {
-        power = 2 * power;
-    }
-    power
-}
-
-// What a digit of an order condition has.
-fn order_digit(prime: u8) -> Counts
-    requires { ⌜ 3 ≤ prime ⌝ }
-    ensures { λ r. ⌜ (r ≡ digitCounts true prime) × Within mostInDigit r ⌝ }
-{
-    let p = prime as u32;
-    Counts {
-        gates: p + 4 + (p - 3) / 2 + (p - 1) / 4,
-        products: (p - 3) / 2,
-        squares: (p - 1) / 4 + 1,
-    }
-}
-
-// What a digit of an equality condition has.
-fn equality_digit(prime: u8) -> Counts
-    requires { ⌜ 3 ≤ prime ⌝ }
-    ensures { λ r. ⌜ (r ≡ digitCounts false prime) × Within mostInDigit r ⌝ }
-{
-    let t = (prime - 1) as u16;
-    let log = field::floor_log2(t) as u32;
-    let ones = count_ones(t) as u32;
-    Counts {
-        gates: 3 + log + ones,
-        products: ones - 1,
-        squares: log,
-    }
-}
-
-// What n digits and their order joining have.
-fn join_order(n: u8, digit: Counts) -> Counts
-    requires { ⌜ (1 ≤ n) × (n ≤ mostDigits) × Within mostInDigit digit ⌝ }
-    ensures { λ r. ⌜ (r ≡ joinedCounts true n digit) × Within mostJoined r ⌝ }
-{
-    let digits = n as u32;
-    let log = field::floor_log2(n as u16) as u32;
-    Counts {
-        gates: digits * digit.gates + 4 * (digits - 1) - log,
-        products: digits * digit.products + (2 * digits - 2 - log),
-        squares: digits * digit.squares,
-    }
-}
-
-// What n digits and their product tree have.
-fn join_equality(n: u8, digit: Counts) -> Counts
-    requires { ⌜ (1 ≤ n) × (n ≤ mostDigits) × Within mostInDigit digit ⌝ }
-    ensures { λ r. ⌜ (r ≡ joinedCounts false n digit) × Within mostJoined r ⌝ }
-{
-    let digits = n as u32;
-    Counts {
-        gates: digits * digit.gates + (digits - 1),
-        products: digits * digit.products + (digits - 1),
-        squares: digits * digit.squares,
-    }
-}
-
-// With the FLIP of its relation, if that ends with one.
-fn end_condition(relation: Relation, joined: Counts) -> Counts
-    requires { ⌜ Within mostJoined joined ⌝ }
-    ensures { λ r. ⌜ (r ≡ endedCounts (relationIs relation) joined) × Within mostInCondition r ⌝ }
-{
-    if is_flipped(relation) {
-        return Counts {
-            gates: joined.gates + 1,
-            products: joined.products,
-            squares: joined.squares,
-        };
-    }
-    joined
-}
-
-// What a condition has, from what a digit of each sort has.
-fn count_condition(relation: Relation, n: u8, order: Counts, equality: Counts) -> Counts
-    requires { ⌜ (1 ≤ n) × (n ≤ mostDigits) × Within mostInDigit order × Within mostInDigit equality ⌝ }
-    ensures { λ r. ⌜ (r ≡ conditionCounts (relationIs relation) n order equality) × Within mostInCondition r ⌝ }
-{
-    if is_order(relation) {
-        return end_condition(relation, join_order(n, order));
-    }
-    end_condition(relation, join_equality(n, equality))
-}
-
-// What the first count records have together, and nothing where one of them is refused.
-fn count_conditions(records: &[u8], count: usize, prime: u8) -> Totals
-    requires { ⌜ (count ≤ mostConditions) × (4 * count ≤ length (now records)) × (3 ≤ prime) ⌝ }
-    ensures { λ r. ⌜ (r ≡ totalsRead prime count (now (records .entry))) × TotalsWithin mostConditions r ⌝ }
-{
-    let order = order_digit(prime);
-    let equality = equality_digit(prime);
-    let mut gates: u32 = 0;
-    let mut products: u32 = 0;
-    let mut squares: u32 = 0;
-    let mut breadth: u32 = 0;
-    let mut k = 0;
-    while k < count {
-        let at = RECORD * k;
-        match read_condition(&records[at..]) {
-            ConditionRead::Read { relation, digits } => {
-                let own = count_condition(relation, digits, order, equality);
-                gates += own.gates;
-                products += own.products;
-                squares += own.squares;
-                breadth += power_above(digits) as u32;
-            }
-            ConditionRead::Refused(_) => {
-                return Totals {
-                    gates: 0,
-                    products: 0,
-                    squares: 0,
-                    breadth: 0,
-                };
-            }
-        }
-        k += 1;
-    }
-    Totals {
-        gates,
-        products,
-        squares,
-        breadth,
-    }
-}
-
-// The five numbers: those of the conditions, and the product tree over their outputs.
-fn report_on(head: CardHead, totals: Totals) -> Report
-    requires { ⌜ InRanges (headIs head) × TotalsWithin mostConditions totals ⌝ }
-    ensures { λ r. ⌜ reportAnswer (Success r) ≡ accepted (reportFrom (headIs head) totals) ⌝ }
-{
-    let tree = (head.count - 1) as u32;
-    let products = totals.products + tree;
-    let levels = field::ceil_log2((head.prime - 1) as u16);
-    Report {
-        gates: (totals.gates + tree) as u16,
-        products: products as u16,
-        squares: totals.squares as u16,
-        cost: table::cost_of(products, totals.squares, head.weight),
-        depth: Depth(levels + field::ceil_log2(totals.breadth as u16)),
-    }
-}
-
-// The report on the table of a card that was read.
-pub fn forecast_read(card: &[u8], head: CardHead) -> Report
-    requires { ⌜ accepted (headIs head) ≡ readSummary (now card) ⌝ }
-    ensures { λ r. ⌜ reportAnswer (Success r) ≡ forecasting (now (card .entry)) ⌝ }
-{
-    let count = table::wide(head.count);
-    let totals = count_conditions(&card[HEAD..], count, head.prime);
-    report_on(head, totals)
-}
-
-// The report on a card's table from the card alone, or the first rule that the card breaks.
-pub fn forecast(card: &[u8]) -> Reported
-    ensures { λ r. ⌜ reportAnswer r ≡ forecasting (now (card .entry)) ⌝ }
-{
-    match read_card(card) {
-        CardRead::Read(head) => Reported::Success(forecast_read(card, head)),
-        CardRead::Refused(why) => Reported::Refused(why),
     }
 }

@@ -1,4 +1,4 @@
--- Gate tables: gates and their bytes, what they mean, what Check, Trim and Run answer, and product trees.
+-- To be believed by a reader of the promises: gates and their bytes, what they mean, what Check, Trim and Run answer, and product trees.
 pub mod Bytes
 pub mod Constant
 pub mod Gate

@@ -8,7 +8,6 @@ use lib.ListN.{length, drop}
 use Rattle.answer.specs.Outcome.{refused, accepted, Keeps}
 use Rattle.answer.specs.Report.{Report}
 use Rattle.digits.specs.Number.{allBelow}
-use Rattle.circuit.specs.Count.{products, squares}
 use Rattle.circuit.specs.Depth.{depths}
 use Rattle.circuit.specs.Gate.{Gate}
 use Rattle.circuit.specs.Meaning.{entries, entryAt, output}

@@ -46,17 +46,6 @@ ascending-at (suc n) i (suc m) l = ascending-at n (suc i) m (omega arith) ∙ om
 
 -- ---- i, i + 2, ..
 
-pub length-second : (n i : ℕ) → length (everySecond n i) ≡ n
-unfolding everySecond
-length-second zero i = refl
-length-second (suc n) i = ap suc (length-second n (suc (suc i)))
-
-pub second-at : (n i m : ℕ) → m < n → getD (everySecond n i) m 0 ≡ i + 2 * m
-unfolding everySecond
-second-at zero i m l = absurd (omega arith)
-second-at (suc n) i zero l = omega arith
-second-at (suc n) i (suc m) l = second-at n (suc (suc i)) m (omega arith) ∙ omega arith
-
 pub every-second : (P : ℕ → Type 0) (n i : ℕ) → ((m : ℕ) → m < n → P (i + 2 * m)) → Every P (everySecond n i)
 unfolding everySecond
 every-second P zero i h = tt

@@ -14,6 +14,7 @@ use Rattle.field.specs.Logarithm.{clog}
 use Rattle.field.specs.Polynomials.{everySecond, orderExponents, orderPolynomial, zeroTest}
 use Rattle.field.proofs.Logarithm.{clog-mono}
 use Rattle.field.proofs.Modular.{sub-cong}
+use Rattle.field.proofs.OrderConstants.{length-second}
 use Rattle.circuit.specs.Count.{count, isProduct, isSquare}
 use Rattle.circuit.specs.Depth.{depths}
 use Rattle.circuit.specs.Every.{Every}
@@ -26,14 +27,14 @@ use Rattle.circuit.proofs.Fitting.{all-fit, fit-append}
 use Rattle.circuit.proofs.Meaning.{Solves, solves-append}
 use Rattle.comparison.specs.Difference.{zGate}
 use Rattle.comparison.specs.OrderDigit.{half, powers, powerCount, powerGate, terms, termStart, lessGates, lessGate, equalGates, equalGate}
-use Rattle.comparison.proofs.Mapped.{length-second, every-second}
+use Rattle.comparison.proofs.Mapped.{every-second}
 use Rattle.comparison.proofs.Powers.{Asked, gate-low, gate-high, asked-top, powers-length, power-value, power-depth}
 use Rattle.comparison.proofs.PowersCount.{powers-fit, powers-count}
 use Rattle.comparison.proofs.Terms.{terms-length, terms-count, terms-fit, terms-value, terms-below, terms-covers, terms-within}
 
 -- ---- the exponents of the terms
 
-exponents-length : (p : ℕ) → length (orderExponents p) ≡ suc (half p)
+pub exponents-length : (p : ℕ) → length (orderExponents p) ≡ suc (half p)
 unfolding orderExponents
 exponents-length p = length-append (everySecond (half p) 1) ((p - 1) ∷ []) ∙ omega (arith, length-second (half p) 1)
 

@@ -16,12 +16,13 @@ use lib.Pow.{pow-add}
 use Rattle.field.specs.Logarithm.{clog}
 use Rattle.field.proofs.Logarithm.{clog-half, clog-small, clog-mono}
 use Rattle.field.proofs.Modular.{mod-same, mul-cong, mulMod-is}
+use Rattle.field.proofs.OrderConstants.{length-second, second-at}
 use Rattle.circuit.specs.Depth.{depths}
 use Rattle.circuit.specs.Meaning.{Algebra, meaning}
 use Rattle.circuit.specs.Value.{values}
 use Rattle.circuit.proofs.Meaning.{Solves, solves-append}
 use Rattle.comparison.specs.OrderDigit.{half, lowExponents, nextOdd, oddExponents, lowPower, powerOf, powers, powerCount, powerGate}
-use Rattle.comparison.proofs.Mapped.{solves-map, length-ascending, ascending-at, length-second, second-at}
+use Rattle.comparison.proofs.Mapped.{solves-map, length-ascending, ascending-at}
 
 -- the exponents that the terms ask for: odd ones up to p - 2, and p - 1
 abbrev pub Asked : ℕ → ℕ → Type 0

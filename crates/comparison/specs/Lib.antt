@@ -1,4 +1,4 @@
--- The gates of one condition: relations and conditions, digit tests, joining, and what is proved of a whole condition.
+-- To be believed by a reader of the promises: relations and conditions, digit tests, joining, and what is proved of the gates of one condition.
 pub mod Relation
 pub mod Condition
 pub mod Bits

@@ -4,17 +4,9 @@ use mathlib.Core.Bool.{not}
 use mathlib.Core.List.{List}
 use lib.Dec.{ltb}
 use lib.ListN.{length}
-use Rattle.answer.specs.Numbers.{refusalNumber}
 use Rattle.answer.specs.Outcome.{Answer, refused, accepted, refuse}
 use Rattle.field.specs.Primes.{listed}
-use Rattle.digits.specs.declared.Decoded.{Decoded}
-use Rattle.digits.specs.declared.Decoded.the-variants.{Number, Refused}
 use Rattle.digits.specs.Number.{base, wrongCount, number, allBelow}
-
--- the refusal's number, or the number decoded, for each case of the enum
-abbrev pub decodeAnswer : Decoded → Answer ℕ
-decodeAnswer (Number x) = accepted x
-decodeAnswer (Refused why) = refused (refusalNumber why)
 
 -- "24 number above 2^64-1", or the number that the digits stand for
 abbrev pub totalOf : ℕ → List ℕ → Answer ℕ

@@ -4,17 +4,9 @@ use mathlib.Core.Bool.{not}
 use mathlib.Core.List.{List, _++_}
 use lib.Dec.{ltb, leb}
 use lib.ListN.{length, drop}
-use Rattle.answer.specs.Numbers.{refusalNumber}
-use Rattle.answer.specs.Outcome.{Answer, refused, accepted, Outcome, unaltered, refuse}
+use Rattle.answer.specs.Outcome.{accepted, Outcome, unaltered, refuse}
 use Rattle.field.specs.Primes.{listed}
-use Rattle.digits.specs.declared.Encoded.{Encoded}
-use Rattle.digits.specs.declared.Encoded.the-variants.{Done, Refused}
 use Rattle.digits.specs.Number.{base, wrongCount, digitsOf}
-
--- the refusal's number, or no value, for each case of the enum
-abbrev pub encodeAnswer : Encoded → Answer Unit
-encodeAnswer Done = accepted tt
-encodeAnswer (Refused why) = refused (refusalNumber why)
 
 abbrev pub encoding : ℕ → ℕ → ℕ → List ℕ → Outcome Unit
 encoding p n x out =

@@ -21,9 +21,9 @@ use Rattle.comparison.proofs.Digits.{digits-cons}
 use Rattle.comparison.proofs.EqualityDigit.{zero-length}
 use Rattle.writer.specs.declared.Pen.{Pen}
 use Rattle.writer.specs.declared.Slots.{Slots}
-use Rattle.writer.specs.Factors.{nodes}
+use Rattle.tree.specs.Factors.{nodes}
 use Rattle.writer.specs.Pen.{Wrote}
-use Rattle.writer.proofs.Factors.{added}
+use Rattle.tree.proofs.Factors.{added}
 use Rattle.writer.proofs.Writing.{then}
 use Rattle.writer.specs.Remains.{Remains}
 use Rattle.equality.specs.Slots.{equalityCondition}

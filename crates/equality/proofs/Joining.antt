@@ -18,7 +18,7 @@ use Rattle.comparison.specs.Digits.{digitsFrom}
 use Rattle.comparison.specs.Writing.{digitDepth, equalityFactors, equalityJoining}
 use Rattle.writer.specs.declared.Pen.{Pen}
 use Rattle.writer.specs.declared.Slots.{Slots}
-use Rattle.writer.specs.Factors.{Shallow}
+use Rattle.tree.specs.Factors.{Shallow}
 use Rattle.writer.specs.Pen.{Wrote}
 use Rattle.writer.proofs.Writing.{same-gates, then}
 use Rattle.equality.specs.Slots.{equalityCondition, equalitySegment}

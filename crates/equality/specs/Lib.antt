@@ -1,3 +1,3 @@
--- Writing equality conditions: one bit of the collected power, and the condition of some slots.
+-- Only serves contracts of functions inside: one bit of the collected power, and an equality condition but for its last FLIP.
 pub mod Collecting
 pub mod Slots

@@ -17,7 +17,7 @@ ghost use Rattle.comparison.specs.Digits.{digitsFrom};
 ghost use Rattle.comparison.specs.EqualityDigit.{zeroChain, zeroGates};
 ghost use Rattle.comparison.specs.Relation.{Equal};
 ghost use Rattle.comparison.specs.Writing.{equalityFactors};
-ghost use Rattle.writer.specs.Factors.{nodes};
+ghost use Rattle.tree.specs.Factors.{nodes};
 ghost use Rattle.writer.specs.Nodes.{nodeIs};
 ghost use Rattle.writer.specs.Pen.{Wrote, Room, Moved};
 ghost use Rattle.writer.specs.Remains.{Remains};
@@ -158,7 +158,7 @@ pub fn put_equality(table: &mut [u8], pen: Pen, p: u16, slots: Slots) -> Written
     let mut gates = [0u16; digits::MOST_DIGITS];
     let mut depths = [0u16; digits::MOST_DIGITS];
     let written = put_equality_digits(table, pen, p, slots, &mut gates, &mut depths);
-    writer::put_product_tree(
+    tree::put_product_tree(
         table,
         written,
         &mut gates,

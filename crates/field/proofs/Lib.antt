@@ -1,7 +1,6 @@
 -- Laws that other crates cite.
 pub mod Tests
 pub mod Primes
-pub mod Reciprocal
 pub mod Modular
 pub mod Bit
 pub mod Sum
@@ -10,6 +9,6 @@ pub mod Euclid
 pub mod Binomial
 pub mod Fermat
 pub mod PowerSum
-pub mod Constants
 pub mod Geometric
+pub mod OrderConstants
 pub mod Polynomials

@@ -22,7 +22,7 @@ use Rattle.field.specs.Polynomials.{everySecond, orderExponents, orderCo
 use Rattle.field.specs.Promises.{ZeroTest, OrderTest}
 use Rattle.field.proofs.Modular.{mod-same, multiple-between, mod-mul, add-cong, mul-cong, none-add, mul-none, none-mul, mul-unit, opposite-squares, minus-add, add-cancel, minus-of, minus-zero, subMod-is}
 use Rattle.field.proofs.Sum.{sum-shift, sum-mul, sum-same, sum-swap, sum-cong, sum-none, sum-single, total-append}
-use Rattle.field.proofs.Constants.{constant-odd, constant-last}
+use Rattle.field.proofs.OrderConstants.{constant-odd, constant-last}
 use Rattle.field.proofs.Geometric.{geometric, telescope, geometric-same, geometric-cong}
 use Rattle.field.proofs.Euclid.{different-squares}
 use Rattle.field.proofs.Fermat.{fermat-one, fermat-zero}

@@ -7,7 +7,6 @@ use Prim.Native.Nat.{ℕ, _+_, _-_, _/_, _≤_, _<_}
 use native.Mathlib.Omega.{arith}
 use native.Mathlib.Nat.{zero-add}
 use Rattle.circuit.specs.Gate.{Add, Mul}
-use Rattle.circuit.specs.Tree.{join}
 use Rattle.comparison.specs.Joining.{halves, joinRun, joinLowest}
 use Rattle.writer.specs.declared.Pen.{Pen}
 use Rattle.writer.specs.Pen.{Wrote}

@@ -1,2 +1,2 @@
--- Order joining: the gates of L and E of each digit.
+-- Only serves contracts of functions inside: the gates of L and E of each digit.
 pub mod Tests

@@ -74,7 +74,7 @@ fn join_run(table: &mut [u8], pen: Pen, p: u16, k: u16, first: u16, m: u16, dept
         pen: last,
         less: next + 1,
         equal: next + 2,
-        depth: table::deeper(low.depth, high.depth) + 1,
+        depth: answer::deeper(low.depth, high.depth) + 1,
     }
 }
 
@@ -103,7 +103,7 @@ pub fn join_digits(table: &mut [u8], pen: Pen, p: u16, k: u16, n: u16, depth: u1
         pen: last,
         node: Node {
             gate: next + 1,
-            depth: table::deeper(low.node.depth, high.depth) + 1,
+            depth: answer::deeper(low.node.depth, high.depth) + 1,
         },
     }
 }

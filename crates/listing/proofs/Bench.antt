@@ -17,7 +17,7 @@ use Rattle.query.specs.Reading.{readConditions}
 use Rattle.query.specs.Whole.{addAll}
 use Rattle.listing.specs.Bench.{FirstListing}
 use Rattle.listing.specs.Lines.{gateLines}
-use Rattle.listing.specs.Text.{spell, decimal}
+use Rattle.text.specs.Text.{spell, decimal}
 
 pub first-listing : FirstListing
 unfolding spell decimal gateLines orderConstants listed member primes sum readConditions total addAll conditionSegment digitsFrom ascending powerGate laterTerms halves joinLowest multiply least flog clog count interpret residue

@@ -32,7 +32,7 @@ use Rattle.listing.specs.Lines.{gateLine, gateLines, summaryLine, refusa
 use Rattle.listing.specs.Listing.{tableListing, listing}
 use Rattle.listing.specs.Promises.{mostListing, ShortListing}
 use Rattle.listing.specs.Words.{kindName}
-use Rattle.listing.proofs.Text.{decimal-short}
+use Rattle.text.proofs.Text.{decimal-short}
 
 -- ---- tables
 

@@ -1,6 +1,4 @@
 -- Laws of listings.
-pub mod Text
-pub mod Putting
 pub mod Records
 pub mod Bench
 pub mod Listed

@@ -8,12 +8,12 @@ use lib.ListN.{length, drop}
 use lib.Seq.{drop-drop}
 use Rattle.circuit.specs.Gate.{Gate, Left, Right, Add, Sub, Scale, Flip, Mul, fields, gateBytes}
 use Rattle.circuit.specs.Table.{gatesBytes}
-use Rattle.table.proofs.Records.{lentAt, lent-is}
+use Rattle.records.proofs.Records.{lentAt, lent-is}
 use Rattle.listing.specs.Lines.{gateLine, gateLines}
-use Rattle.listing.specs.Putting.{Fits}
+use Rattle.text.specs.Putting.{Fits}
 use Rattle.listing.specs.Records.{nameOf, recordLine, recordLines}
 use Rattle.listing.specs.Words.{kindName}
-use Rattle.listing.proofs.Putting.{begins}
+use Rattle.text.proofs.Putting.{begins}
 
 -- the two bytes of a u16
 whole : (x : ℕ) → x % 256 + 256 * (x / 256) ≡ x

@@ -3,12 +3,8 @@ use Prim.Native.Nat.{ℕ, suc}
 use mathlib.Core.List.{List, [], _∷_, _++_}
 use Rattle.answer.specs.Report.{Report}
 use Rattle.circuit.specs.Gate.{Gate, fields}
-use Rattle.listing.specs.Text.{decimal, space, lineFeed}
+use Rattle.text.specs.Text.{decimal, space, lineFeed, labelled}
 use Rattle.listing.specs.Words.{kindName, gatesWord, productsWord, squaresWord, costWord, depthWord, refusedWord}
-
--- a word and a number
-abbrev pub labelled : List ℕ → ℕ → List ℕ
-labelled word n = word ++ decimal n
 
 abbrev pub ended : List ℕ
 ended = lineFeed ∷ []

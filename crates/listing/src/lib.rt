@@ -1,8 +1,8 @@
 // Listings: the lines that are printed of a card.
 use answer::Report;
 use answer::Reported;
-use table::MOST_GATES;
-use table::RECORD;
+use records::MOST_GATES;
+use records::RECORD;
 ghost use mathlib.Core.Path.{_≡_};
 ghost use Prim.Native.Nat.{_+_, _*_, _≤_};
 ghost use lib.ListN.{length, drop};
@@ -10,12 +10,11 @@ ghost use lib.Seq.{sets};
 ghost use Rattle.answer.specs.Report.{reportOf};
 ghost use Rattle.circuit.specs.Table.{mostGates};
 ghost use Rattle.query.specs.Outcomes.{building};
-ghost use Rattle.listing.specs.Lines.{labelled, summaryLine, refusalLine};
+ghost use Rattle.listing.specs.Lines.{summaryLine, refusalLine};
 ghost use Rattle.listing.specs.Listing.{listing};
 ghost use Rattle.listing.specs.Promises.{mostListing};
-ghost use Rattle.listing.specs.Putting.{Puts, Fits};
+ghost use Rattle.text.specs.Putting.{Puts, Fits};
 ghost use Rattle.listing.specs.Records.{nameOf, recordLine, recordLines};
-ghost use Rattle.listing.specs.Text.{decimal};
 
 // The bytes of the longest card.
 pub const MOST_CARD: usize = card::HEAD + card::RECORD * card::MOST_CONDITIONS;
@@ -26,55 +25,19 @@ pub const MOST_TABLE: usize = RECORD * (MOST_GATES + 1);
 // The bytes of the longest listing: a summary of at most 61 and gate lines of at most 21.
 pub const MOST_LISTING: usize = 61 + 21 * MOST_GATES;
 
-// A text. This function and those below put one at a place of out, and answer the place after it.
-fn put_text(out: &mut [u8], at: usize, text: &[u8]) -> usize
-    requires { ⌜ Fits (now out) at (now text) ⌝ }
-    ensures { λ r. ⌜ Puts (now (out .entry)) at (now (text .entry)) (now (out .exit)) r ⌝ }
-{
-    let mut i = 0;
-    while i < text.len() {
-        out[at + i] = text[i];
-        i += 1;
-    }
-    at + i
-}
-
-// A number, in decimal digits.
-fn put_decimal(out: &mut [u8], at: usize, n: u32) -> usize
-    requires { ⌜ Fits (now out) at (decimal n) ⌝ }
-    ensures { λ r. ⌜ Puts (now (out .entry)) at (decimal n) (now (out .exit)) r ⌝ }
-{
-    if n < 10 {
-        out[at] = b'0' + n as u8;
-        return at + 1;
-    }
-    let last = put_decimal(out, at, n / 10);
-    out[last] = b'0' + (n % 10) as u8;
-    last + 1
-}
-
-// A word and a number.
-fn put_labelled(out: &mut [u8], at: usize, word: &[u8], n: u32) -> usize
-    requires { ⌜ Fits (now out) at (labelled (now word) n) ⌝ }
-    ensures { λ r. ⌜ Puts (now (out .entry)) at (labelled (now (word .entry)) n) (now (out .exit)) r ⌝ }
-{
-    let number = put_text(out, at, word);
-    put_decimal(out, number, n)
-}
-
-// The name of a kind.
+// The name of a kind. This function and those below put a text at a place of out, and answer the place after it.
 fn put_kind(out: &mut [u8], at: usize, kind: u8) -> usize
     requires { ⌜ Fits (now out) at (nameOf kind) ⌝ }
     ensures { λ r. ⌜ Puts (now (out .entry)) at (nameOf kind) (now (out .exit)) r ⌝ }
 {
     match kind {
-        1 => put_text(out, at, b"LEFT"),
-        2 => put_text(out, at, b"RIGHT"),
-        3 => put_text(out, at, b"ADD"),
-        4 => put_text(out, at, b"SUB"),
-        5 => put_text(out, at, b"SCALE"),
-        6 => put_text(out, at, b"FLIP"),
-        7 => put_text(out, at, b"MUL"),
+        1 => text::put_text(out, at, b"LEFT"),
+        2 => text::put_text(out, at, b"RIGHT"),
+        3 => text::put_text(out, at, b"ADD"),
+        4 => text::put_text(out, at, b"SUB"),
+        5 => text::put_text(out, at, b"SCALE"),
+        6 => text::put_text(out, at, b"FLIP"),
+        7 => text::put_text(out, at, b"MUL"),
         _ => at,
     }
 }
@@ -84,14 +47,14 @@ fn put_gate_line(out: &mut [u8], at: usize, k: u16, bytes: &[u8]) -> usize
     requires { ⌜ (8 ≤ length (now bytes)) × Fits (now out) at (recordLine k (now bytes)) ⌝ }
     ensures { λ r. ⌜ Puts (now (out .entry)) at (recordLine k (now (bytes .entry))) (now (out .exit)) r ⌝ }
 {
-    let a = table::u16_at(bytes, 4) as u32;
-    let b = table::u16_at(bytes, 6) as u32;
-    let space = put_decimal(out, at, k as u32);
-    let kind = put_text(out, space, b" ");
+    let a = records::u16_at(bytes, 4) as u32;
+    let b = records::u16_at(bytes, 6) as u32;
+    let space = text::put_decimal(out, at, k as u32);
+    let kind = text::put_text(out, space, b" ");
     let first = put_kind(out, kind, bytes[2]);
-    let second = put_labelled(out, first, b" ", a);
-    let end = put_labelled(out, second, b" ", b);
-    put_text(out, end, b"\n")
+    let second = text::put_labelled(out, first, b" ", a);
+    let end = text::put_labelled(out, second, b" ", b);
+    text::put_text(out, end, b"\n")
 }
 
 // The lines of the first count gates of a table.
@@ -114,12 +77,12 @@ fn put_summary(out: &mut [u8], at: usize, told: Report) -> usize
     requires { ⌜ Fits (now out) at (summaryLine (reportOf told)) ⌝ }
     ensures { λ r. ⌜ Puts (now (out .entry)) at (summaryLine (reportOf told)) (now (out .exit)) r ⌝ }
 {
-    let products = put_labelled(out, at, b"gates ", told.gates as u32);
-    let squares = put_labelled(out, products, b" products ", told.products as u32);
-    let cost = put_labelled(out, squares, b" squares ", told.squares as u32);
-    let depth = put_labelled(out, cost, b" cost ", told.cost.0);
-    let end = put_labelled(out, depth, b" depth ", told.depth.0 as u32);
-    put_text(out, end, b"\n")
+    let products = text::put_labelled(out, at, b"gates ", told.gates as u32);
+    let squares = text::put_labelled(out, products, b" products ", told.products as u32);
+    let cost = text::put_labelled(out, squares, b" squares ", told.squares as u32);
+    let depth = text::put_labelled(out, cost, b" cost ", told.cost.0);
+    let end = text::put_labelled(out, depth, b" depth ", told.depth.0 as u32);
+    text::put_text(out, end, b"\n")
 }
 
 // The line of a refusal, by its number.
@@ -127,8 +90,8 @@ fn put_refusal(out: &mut [u8], at: usize, number: u8) -> usize
     requires { ⌜ Fits (now out) at (refusalLine number) ⌝ }
     ensures { λ r. ⌜ Puts (now (out .entry)) at (refusalLine number) (now (out .exit)) r ⌝ }
 {
-    let end = put_labelled(out, at, b"refused ", number as u32);
-    put_text(out, end, b"\n")
+    let end = text::put_labelled(out, at, b"refused ", number as u32);
+    text::put_text(out, end, b"\n")
 }
 
 // Puts the listing of a card at the start of text and answers its length. The table is built in the

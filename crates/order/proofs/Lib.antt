@@ -1,5 +1,4 @@
 -- Laws of writing order conditions.
-pub mod Powers
 pub mod Terms
 pub mod Digit
 pub mod Whole

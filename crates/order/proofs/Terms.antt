@@ -11,9 +11,10 @@ use lib.Seq.{getD-at}
 use Rattle.field.specs.Logarithm.{clog}
 use Rattle.field.specs.Polynomials.{everySecond, orderExponents, orderConstant, orderConstants}
 use Rattle.field.proofs.Logarithm.{clog-mono}
+use Rattle.field.proofs.OrderConstants.{length-second}
 use Rattle.circuit.specs.Gate.{Scale, Add}
 use Rattle.comparison.specs.OrderDigit.{half, powerGate, laterTerms, terms}
-use Rattle.comparison.proofs.Mapped.{length-second}
+use Rattle.comparison.proofs.OrderDigit.{exponents-length}
 use Rattle.comparison.proofs.Powers.{gate-low, gate-high}
 use Rattle.order.specs.Constants.{Constants}
 
@@ -33,10 +34,6 @@ unfolding everySecond
 second-then zero i m later l = absurd (omega arith)
 second-then (suc n) i zero later l = omega arith
 second-then (suc n) i (suc m) later l = second-then n (suc (suc i)) m later (omega arith) ∙ omega arith
-
-exponents-length : (p : ℕ) → length (orderExponents p) ≡ half p + 1
-unfolding orderExponents
-exponents-length p = length-append (everySecond (half p) 1) _ ∙ omega (arith, length-second (half p) 1)
 
 -- there is one for each exponent
 pub constants-long : (p : ℕ) (list : List ℕ) → Constants p list → half p < length list

@@ -1,4 +1,3 @@
--- Writing order conditions: what is carried beside the gates.
-pub mod Powers
+-- Only serves contracts of functions inside: the constants, as they are lent, and an order condition but for its last FLIP.
 pub mod Constants
 pub mod Slots

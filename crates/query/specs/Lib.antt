@@ -1,5 +1,4 @@
--- Query cards and their tables: what a card says, the table that Build writes, what Build and Forecast answer,
--- and what is proved of them.
+-- To be believed by a reader of the promises: what a card says, the table that Build writes, what Build and Forecast answer, and demand 3.
 pub mod Card
 pub mod Reading
 pub mod Whole

@@ -1,3 +1,2 @@
 -- What the proofs of the functions use.
-mod Numbers
 mod Trimmed

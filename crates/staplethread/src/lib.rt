@@ -1,20 +1,18 @@
 // The operations for programs in Rust and C, over numbers and bytes. Each answers 0 on success and
 // on success only, else the number of its refusal, which leaves every lent number and byte as it was.
 // Trim turns nothing away and answers a length.
-use answer::Reported;
-use digits::Decoded;
-use digits::Encoded;
-use table::Ran;
+use coding::Decoded;
+use coding::Encoded;
+use runner::Ran;
 ghost use mathlib.Core.Path.{_≡_};
 ghost use lib.Dec.{eqb};
 ghost use lib.ListN.{length, take};
 ghost use Rattle.answer.specs.Outcome.{refusalIn};
-ghost use Rattle.answer.specs.Report.{reportAnswer};
 ghost use Rattle.digits.specs.Encoding.{encoding};
 ghost use Rattle.digits.specs.Decoding.{decoding};
 ghost use Rattle.circuit.specs.Outcomes.{checking, trimming, running};
 ghost use Rattle.query.specs.Outcomes.{building, forecasting};
-ghost use Rattle.staplethread.specs.Told.{isAccepted, numberAfter, gatesAfter, productsAfter, squaresAfter, costAfter, depthAfter};
+ghost use Rattle.told.specs.Told.{isAccepted, numberAfter, gatesAfter, productsAfter, squaresAfter, costAfter, depthAfter};
 
 // Encode: writes number as n digits at the start of out.
 #[no_mangle]
@@ -23,7 +21,7 @@ pub extern "C" fn staplethread_encode(p: u8, n: usize, number: u64, out: &mut [u
     ensures success { λ r. ⌜ eqb r 0 ≡ isAccepted (encoding p n number (now (out .entry)) .answer) ⌝ }
     ensures leaves { λ _. ⌜ now (out .exit) ≡ encoding p n number (now (out .entry)) .lent ⌝ }
 {
-    match digits::encode(p, n, number, out) {
+    match coding::encode(p, n, number, out) {
         Encoded::Done => 0,
         Encoded::Refused(why) => answer::refusal_number(why),
     }
@@ -36,42 +34,12 @@ pub extern "C" fn staplethread_decode(p: u8, digits: &[u8], number: &mut u64) ->
     ensures success { λ r. ⌜ eqb r 0 ≡ isAccepted (decoding p (now (digits .entry))) ⌝ }
     ensures told { λ _. ⌜ now (number .exit) ≡ numberAfter (now (number .entry)) (decoding p (now (digits .entry))) ⌝ }
 {
-    match digits::decode(p, digits) {
+    match coding::decode(p, digits) {
         Decoded::Number(sum) => {
             *number = sum;
             0
         }
         Decoded::Refused(why) => answer::refusal_number(why),
-    }
-}
-
-// Tells the report, or only the number of the refusal.
-fn put_report(
-    told: Reported,
-    gates: &mut u16,
-    products: &mut u16,
-    squares: &mut u16,
-    cost: &mut u32,
-    depth: &mut u16,
-) -> u8
-    ensures status { λ r. ⌜ r ≡ refusalIn (reportAnswer told) ⌝ }
-    ensures success { λ r. ⌜ eqb r 0 ≡ isAccepted (reportAnswer told) ⌝ }
-    ensures gates { λ _. ⌜ now (gates .exit) ≡ gatesAfter (now (gates .entry)) (reportAnswer told) ⌝ }
-    ensures products { λ _. ⌜ now (products .exit) ≡ productsAfter (now (products .entry)) (reportAnswer told) ⌝ }
-    ensures squares { λ _. ⌜ now (squares .exit) ≡ squaresAfter (now (squares .entry)) (reportAnswer told) ⌝ }
-    ensures cost { λ _. ⌜ now (cost .exit) ≡ costAfter (now (cost .entry)) (reportAnswer told) ⌝ }
-    ensures depth { λ _. ⌜ now (depth .exit) ≡ depthAfter (now (depth .entry)) (reportAnswer told) ⌝ }
-{
-    match told {
-        Reported::Success(report) => {
-            *gates = report.gates;
-            *products = report.products;
-            *squares = report.squares;
-            *cost = report.cost.0;
-            *depth = report.depth.0;
-            0
-        }
-        Reported::Refused(why) => answer::refusal_number(why),
     }
 }
 
@@ -93,7 +61,7 @@ pub extern "C" fn staplethread_check(
     ensures cost { λ _. ⌜ now (cost .exit) ≡ costAfter (now (cost .entry)) (checking (now (table .entry))) ⌝ }
     ensures depth { λ _. ⌜ now (depth .exit) ≡ depthAfter (now (depth .entry)) (checking (now (table .entry))) ⌝ }
 {
-    put_report(table::check(table), gates, products, squares, cost, depth)
+    told::put_report(checker::check(table), gates, products, squares, cost, depth)
 }
 
 // Trim: how many bytes from the start the part has that is handed back.
@@ -102,7 +70,7 @@ pub extern "C" fn staplethread_trim(table: &[u8]) -> usize
     ensures counts { λ r. ⌜ r ≡ length (trimming (now (table .entry))) ⌝ }
     ensures part { λ r. ⌜ take r (now (table .entry)) ≡ trimming (now (table .entry)) ⌝ }
 {
-    let part = table::trim(table);
+    let part = checker::trim(table);
     part.len()
 }
 
@@ -120,7 +88,7 @@ pub extern "C" fn staplethread_run(
     ensures leaves { λ _. ⌜ now (work .exit) ≡ running (now (table .entry)) (now (left .entry)) (now (right .entry)) (now (work .entry)) .lent ⌝ }
     ensures told { λ _. ⌜ now (output .exit) ≡ numberAfter (now (output .entry)) (running (now (table .entry)) (now (left .entry)) (now (right .entry)) (now (work .entry)) .answer) ⌝ }
 {
-    match table::run(table, left, right, work) {
+    match runner::run(table, left, right, work) {
         Ran::Output(value) => {
             *output = value;
             0
@@ -147,7 +115,14 @@ pub extern "C" fn staplethread_forecast(
     ensures cost { λ _. ⌜ now (cost .exit) ≡ costAfter (now (cost .entry)) (forecasting (now (card .entry))) ⌝ }
     ensures depth { λ _. ⌜ now (depth .exit) ≡ depthAfter (now (depth .entry)) (forecasting (now (card .entry))) ⌝ }
 {
-    put_report(card::forecast(card), gates, products, squares, cost, depth)
+    told::put_report(
+        forecast::forecast(card),
+        gates,
+        products,
+        squares,
+        cost,
+        depth,
+    )
 }
 
 // Build: the table of a card at the start of the lent bytes, and the report on it.
@@ -170,7 +145,7 @@ pub extern "C" fn staplethread_build(
     ensures cost { λ _. ⌜ now (cost .exit) ≡ costAfter (now (cost .entry)) (building (now (card .entry)) (now (table .entry)) .answer) ⌝ }
     ensures depth { λ _. ⌜ now (depth .exit) ≡ depthAfter (now (depth .entry)) (building (now (card .entry)) (now (table .entry)) .answer) ⌝ }
 {
-    put_report(
+    told::put_report(
         builder::build(card, table),
         gates,
         products,

@@ -1,5 +1,3 @@
--- Laws of writing, of the factors of a product tree, and of writing the tree.
+-- Laws of writing.
 pub mod Writing
-pub mod Factors
-pub mod ProductTree
 pub mod Remains

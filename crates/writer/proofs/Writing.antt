@@ -3,11 +3,11 @@
 -- Assumes nothing.
 use mathlib.Core.Path.{_≡_, refl, sym, ap, _∙_, subst}
 use mathlib.Core.List.{List, [], _∷_, _++_}
-use Prim.Native.Nat.{ℕ, suc, _+_, _*_, _≤_}
+use Prim.Native.Nat.{ℕ, _+_, _*_, _≤_}
 use native.Mathlib.Omega.{arith}
-use native.Mathlib.Nat.{add-zero}
-use lib.ListN.{length, drop, set, length-append}
+use lib.ListN.{length, drop, length-append}
 use lib.Seq.{sets, sets-eq}
+use Rattle.answer.proofs.Lent.{sets-append}
 use Rattle.circuit.specs.Count.{count, products, squares, isProduct, isSquare}
 use Rattle.circuit.specs.Gate.{Gate, gateBytes}
 use Rattle.circuit.specs.Table.{gatesBytes, tableBytes, headBytes, Table}
@@ -22,12 +22,6 @@ pub bytes-append : (gs hs : List Gate) → gatesBytes (gs ++ hs) ≡ gatesBytes 
 unfolding gatesBytes
 bytes-append [] hs = refl
 bytes-append (g ∷ gs) hs = ap (λ (t : List ℕ). gateBytes g ++ t) (bytes-append gs hs)
-
-pub sets-append : (table : List ℕ) (i : ℕ) (xs ys : List ℕ) → sets table i (xs ++ ys) ≡ sets (sets table i xs) (i + length xs) ys
-sets-append table i [] ys = ap (λ (k : ℕ). sets table k ys) (sym (add-zero i))
-sets-append table i (x ∷ xs) ys =
-    let e : suc i + length xs ≡ i + length (x ∷ xs) = omega arith in
-    sets-append (set table i x) (suc i) xs ys ∙ ap (λ (k : ℕ). sets (sets (set table i x) (suc i) xs) k ys) e
 
 pub laid-append : (table : List ℕ) (k : ℕ) (gs hs : List Gate) → laid table k (gs ++ hs) ≡ laid (laid table k gs) (k + length gs) hs
 unfolding laid

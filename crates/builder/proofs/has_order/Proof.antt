@@ -7,7 +7,8 @@ use borrow.Author.Needs.{needs}
 use Rattle.answer.specs.Outcome.{accepted}
 use Rattle.comparison.specs.Condition.{Condition}
 use Rattle.query.specs.Reading.{readCondition}
-use Rattle.card.specs.Parts.{relationIs, conditionAt, conditionAnswer}
+use Rattle.relations.specs.Relations.{relationIs}
+use Rattle.card.specs.Parts.{conditionAt, conditionAnswer}
 use Rattle.card.proofs.Conditions.{lentAt, lent-long}
 use Rattle.builder.proofs.Rest.{unrefused}
 use Rattle.builder.proofs.Orders.{Seeks, starts, finishes, found, passed}

@@ -10,9 +10,11 @@ use Rattle.answer.specs.Outcome.{accepted}
 use Rattle.comparison.specs.Condition.{Condition}
 use Rattle.comparison.specs.Writing.{conditionSegment}
 use Rattle.query.specs.Reading.{readCondition}
-use Rattle.card.specs.Parts.{relationIs, conditionAt, conditionAnswer}
+use Rattle.relations.specs.Relations.{relationIs}
+use Rattle.card.specs.Parts.{conditionAt, conditionAnswer}
 use Rattle.card.proofs.Conditions.{lentAt, lent-long}
-use Rattle.builder.specs.Conditions.{segments, InSlots, conditionsOf}
+use Rattle.builder.specs.Conditions.{segments, conditionsOf}
+use Rattle.condition.specs.Condition.{InSlots}
 use Rattle.builder.proofs.Adding.{Adds, begins, ends, in-slots, fits, own-order, adds}
 use Rattle.builder.proofs.Rest.{unrefused}
 use Rattle.builder.proofs.put_conditions.Statement.{statement}

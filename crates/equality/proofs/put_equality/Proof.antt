@@ -3,7 +3,7 @@
 use mathlib.Core.Path.{_∙_}
 use native.Mathlib.Omega.{arith}
 use borrow.Author.Needs.{needs}
-use Rattle.writer.proofs.Factors.{length-factors}
+use Rattle.tree.proofs.Factors.{length-factors}
 use Rattle.equality.proofs.Joining.{digits-within, outputs-shallow, whole-length, whole-output, whole-wrote}
 use Rattle.equality.proofs.put_equality.Statement.{statement}
 use Rattle.equality.proofs.put_equality.Tie as tie

@@ -3,13 +3,13 @@
 -- Assumes nothing.
 use mathlib.Core.Path.{_≡_, refl, ap₂}
 use mathlib.Core.List.{_++_}
-use Prim.Native.Nat.{ℕ, _+_, _-_, _≤_}
+use Prim.Native.Nat.{ℕ, _-_, _≤_}
 use native.Mathlib.Omega.{arith}
 use borrow.Author.Needs.{needs}
 use lib.ListN.{length, take, length-set}
 use Rattle.comparison.specs.Digits.{digitStart, digitsFrom}
 use Rattle.comparison.specs.Writing.{equalityFactors}
-use Rattle.writer.specs.Factors.{nodes}
+use Rattle.tree.specs.Factors.{nodes}
 use Rattle.writer.specs.Nodes.{nodeIs}
 use Rattle.writer.proofs.Writing.{none}
 use Rattle.writer.specs.Remains.{Remains}

@@ -17,7 +17,7 @@ use Rattle.joining.proofs.+join_digits.Lts-join_digits as lts
 use Rattle.joining.proofs.join_run.Reads as join-run-reads
 use Rattle.joining.proofs.less_gate.Reads as less-gate-reads
 use Rattle.joining.proofs.put_less.Reads as put-less-reads
-use Rattle.table.proofs.deeper.Reads as deeper-reads
+use Rattle.answer.proofs.deeper.Reads as deeper-reads
 use Rattle.joining.proofs.+join_digits.{statement}
 use Rattle.joining.proofs.+join_digits.Tie.{close}
 

@@ -17,7 +17,7 @@ use Rattle.joining.proofs.join_run.Kinds as kinds
 use Rattle.joining.proofs.+join_run.Lts-join_run as lts
 use Rattle.joining.proofs.less_gate.Reads as less-gate-reads
 use Rattle.joining.proofs.put_less.Reads as put-less-reads
-use Rattle.table.proofs.deeper.Reads as deeper-reads
+use Rattle.answer.proofs.deeper.Reads as deeper-reads
 use Rattle.writer.proofs.put_mul.Reads as put-mul-reads
 use Rattle.joining.proofs.+join_run.{statement}
 use Rattle.joining.proofs.+join_run.Tie.{close}

@@ -8,15 +8,14 @@ use native.Mathlib.Omega.{arith}
 use borrow.Author.Needs.{needs}
 use lib.ListN.{length, drop}
 use Rattle.answer.specs.Report as answer
-use Rattle.answer.specs.Report.{reportAnswer}
+use Rattle.answer.specs.Report.{reportAnswer, reportOf}
 use Rattle.listing.specs.Lines.{summaryLine, refusalLine}
 use Rattle.listing.specs.Listing.{listing}
-use Rattle.listing.specs.Putting.{Fits}
-use Rattle.answer.specs.Report.{reportOf}
+use Rattle.text.specs.Putting.{Fits}
 use Rattle.listing.specs.Records.{recordLines}
 use Rattle.listing.proofs.Building.{Listed, lists-table, lists-refusal}
 use Rattle.listing.proofs.Lengths.{short-listing}
-use Rattle.listing.proofs.Putting.{same-text, then, left, begins}
+use Rattle.text.proofs.Putting.{same-text, then, left, begins}
 use Rattle.listing.proofs.list_card.Statement.{statement}
 use Rattle.listing.proofs.list_card.Tie as tie
 

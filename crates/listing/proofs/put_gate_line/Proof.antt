@@ -5,11 +5,11 @@ use mathlib.Core.List.{List, [], _∷_, _++_}
 use Prim.Native.Nat.{ℕ}
 use borrow.Author.Needs.{needs}
 use Rattle.circuit.specs.Bytes.{byte, u16At}
-use Rattle.listing.specs.Lines.{labelled, ended}
-use Rattle.listing.specs.Putting.{Puts, Fits}
+use Rattle.text.specs.Text.{labelled, decimal, space}
+use Rattle.listing.specs.Lines.{ended}
+use Rattle.text.specs.Putting.{Puts, Fits}
 use Rattle.listing.specs.Records.{nameOf}
-use Rattle.listing.specs.Text.{decimal, space}
-use Rattle.listing.proofs.Putting.{same-text, then, left, begins}
+use Rattle.text.proofs.Putting.{same-text, then, left, begins}
 use Rattle.listing.proofs.put_gate_line.Statement.{statement}
 use Rattle.listing.proofs.put_gate_line.Tie as tie
 

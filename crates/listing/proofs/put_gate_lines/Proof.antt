@@ -5,10 +5,10 @@ use Prim.Native.Nat.{ℕ, _-_, _≤_}
 use native.Mathlib.Omega.{arith}
 use borrow.Author.Needs.{needs}
 use lib.ListN.{drop}
-use Rattle.table.proofs.Records.{lent-long}
-use Rattle.listing.specs.Putting.{Puts}
+use Rattle.records.proofs.Records.{lent-long}
+use Rattle.text.specs.Putting.{Puts}
 use Rattle.listing.specs.Records.{recordLines}
-use Rattle.listing.proofs.Putting.{nothing, same-text, same-size, then, left}
+use Rattle.text.proofs.Putting.{nothing, same-text, same-size, then, left}
 use Rattle.listing.proofs.Records.{lines-more, lines-room}
 use Rattle.listing.proofs.put_gate_lines.Statement.{statement}
 use Rattle.listing.proofs.put_gate_lines.Tie as tie

@@ -3,10 +3,10 @@
 use mathlib.Core.Path.{_≡_, sym, ap, subst}
 use Prim.Native.Nat.{ℕ}
 use borrow.Author.Needs.{needs}
-use Rattle.table.proofs.NoKind.{no-kind}
-use Rattle.listing.specs.Putting.{Fits}
+use Rattle.records.proofs.NoKind.{no-kind}
+use Rattle.text.specs.Putting.{Fits}
 use Rattle.listing.specs.Records.{nameOf}
-use Rattle.listing.proofs.Putting.{nothing, same-text}
+use Rattle.text.proofs.Putting.{nothing, same-text}
 use Rattle.listing.proofs.put_kind.Statement.{statement}
 use Rattle.listing.proofs.put_kind.Tie as tie
 

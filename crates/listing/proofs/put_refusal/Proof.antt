@@ -1,9 +1,10 @@
 -- `listing::put_refusal` meets its contract: the word and the number, then the end of the line.
 -- Assumes nothing.
 use borrow.Author.Needs.{needs}
-use Rattle.listing.specs.Lines.{labelled, ended}
+use Rattle.text.specs.Text.{labelled}
+use Rattle.listing.specs.Lines.{ended}
 use Rattle.listing.specs.Words.{refusedWord}
-use Rattle.listing.proofs.Putting.{then, left, begins}
+use Rattle.text.proofs.Putting.{then, left, begins}
 use Rattle.listing.proofs.put_refusal.Statement.{statement}
 use Rattle.listing.proofs.put_refusal.Tie as tie
 

@@ -3,10 +3,11 @@
 use mathlib.Core.List.{List, _++_}
 use Prim.Native.Nat.{ℕ}
 use borrow.Author.Needs.{needs}
-use Rattle.listing.specs.Lines.{labelled, ended}
-use Rattle.listing.specs.Putting.{Puts, Fits}
+use Rattle.text.specs.Text.{labelled}
+use Rattle.listing.specs.Lines.{ended}
+use Rattle.text.specs.Putting.{Puts, Fits}
 use Rattle.listing.specs.Words.{gatesWord, productsWord, squaresWord, costWord, depthWord}
-use Rattle.listing.proofs.Putting.{same-size, then, left, begins}
+use Rattle.text.proofs.Putting.{same-size, then, left, begins}
 use Rattle.listing.proofs.put_summary.Statement.{statement}
 use Rattle.listing.proofs.put_summary.Tie as tie
 

@@ -4,7 +4,7 @@ use Prim.Native.Nat.{_-_}
 use native.Mathlib.Omega.{arith}
 use Rattle.writer.proofs.Writing.{none}
 use Rattle.order.proofs.Digit.{equal-none, equal-some}
-use Rattle.order.proofs.Powers.{place-within}
+use Rattle.powers.proofs.Powers.{place-within}
 use borrow.Author.Needs.{needs}
 use Rattle.order.proofs.put_equal.Statement.{statement}
 use Rattle.order.proofs.put_equal.Tie as tie

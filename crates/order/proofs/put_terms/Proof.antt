@@ -13,7 +13,7 @@ use Rattle.comparison.proofs.Powers.{gate-low}
 use Rattle.writer.specs.Remains.{Remains}
 use Rattle.writer.proofs.Remains.{remains-all, remains-as, remains-then}
 use Rattle.writer.proofs.Writing.{then}
-use Rattle.order.proofs.Powers.{place-within}
+use Rattle.powers.proofs.Powers.{place-within}
 use Rattle.order.proofs.Terms.{exponentsFrom, constants-long, constant-odd, constant-top, terms-first, later-cons, later-top, deeper-power}
 use Rattle.order.proofs.put_terms.Statement.{statement}
 use Rattle.order.proofs.put_terms.Tie as tie

@@ -1,6 +1,6 @@
 -- `staplethread::staplethread_decode` meets its contract: the number is told, or only the number of the refusal.
 -- Assumes nothing.
-use Rattle.staplethread.proofs.Numbers.{not-zero}
+use Rattle.answer.proofs.Numbers.{not-zero}
 use mathlib.Core.Path.{refl}
 use borrow.Author.Needs.{needs}
 use Rattle.staplethread.proofs.staplethread_decode.Statement.{statement}

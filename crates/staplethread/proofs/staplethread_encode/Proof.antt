@@ -1,6 +1,6 @@
 -- `staplethread::staplethread_encode` meets its contract: what Encode answers is told, and the bytes are as Encode leaves them.
 -- Assumes nothing.
-use Rattle.staplethread.proofs.Numbers.{not-zero}
+use Rattle.answer.proofs.Numbers.{not-zero}
 use mathlib.Core.Path.{refl}
 use borrow.Author.Needs.{needs}
 use Rattle.staplethread.proofs.staplethread_encode.Statement.{statement}

@@ -1,6 +1,6 @@
 -- `staplethread::staplethread_run` meets its contract: the output is told, or only the number of the refusal, and work is as Run leaves it.
 -- Assumes nothing.
-use Rattle.staplethread.proofs.Numbers.{not-zero}
+use Rattle.answer.proofs.Numbers.{not-zero}
 use mathlib.Core.Path.{refl}
 use borrow.Author.Needs.{needs}
 use Rattle.staplethread.proofs.staplethread_run.Statement.{statement}

@@ -1,2 +1,0 @@
--- The cases that document 01 marks with *.
-pub mod Starred

@@ -1,0 +1,2 @@
+-- Laws of writing one condition.
+pub mod Relations

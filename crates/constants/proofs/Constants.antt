@@ -1,0 +1,250 @@
+-- Why the code's order constants are those of the definition. A list that is filled from the front holds the first values of a function; the products of the powers
+-- b^d and b^e are the powers b^(d+e), modulo p; and the sum of the powers b^(p-2m) is the constant number m, counted from 1. So with m constants to write the powers
+-- are b^(p-2m), and each turn writes one and raises the powers by b^2.
+-- Assumes nothing.
+use mathlib.Core.Path.{_≡_, refl, sym, ap, ap₂, _∙_}
+use mathlib.Core.List.{List, [], _∷_, _++_, map, map-append, append-assoc, append-nil}
+use Prim.Native.Nat.{ℕ, zero, suc, _+_, _-_, _*_, _/_, _%_, _^_, _≤_, _<_}
+use native.Mathlib.Omega.{arith}
+use native.Mathlib.Numerals.{add-one, sub-one}
+use native.Mathlib.Nat.{mod-mod, pow-zero, pow-succ'}
+use native.Mathlib.Decide.{ℕ-discrete}
+use lib.Pow.{pow-add}
+use lib.ListN.{length, take, drop, set, getD, length-append, length-take, length-drop, length-set, drop-of-length-le, List·getD-append, length-map}
+use lib.Seq.{length-take-le, take-at, drop-cons, drop-set-lt, set-at, getD-at, getD-set-same}
+use Rattle.field.specs.Sum.{sum, total}
+use Rattle.field.specs.Modular.{residue, mulMod}
+use Rattle.field.specs.Polynomials.{everySecond, orderExponents, orderConstant, orderConstants}
+use Rattle.constants.specs.Constants.{firstValues, oneTo, productsMod, powersMod, oddConstants}
+use Rattle.field.proofs.Modular.{mod-same, strip, residue-is, residue-small}
+use Rattle.field.proofs.OrderConstants.{length-second, constant-odd, constant-last}
+use Rattle.field.proofs.Sum.{sum-cong, total-append}
+
+-- ---- first values
+
+pub length-first : (n : ℕ) (f : ℕ → ℕ) → length (firstValues n f) ≡ n
+unfolding firstValues
+length-first zero f = refl
+length-first (suc n) f = length-append (firstValues n f) (f n ∷ []) ∙ omega (arith, length-first n f)
+
+pub first-at : (n : ℕ) (f : ℕ → ℕ) (i : ℕ) → i < n → getD (firstValues n f) i 0 ≡ f i
+unfolding firstValues
+first-at zero f i l = absurd (omega arith)
+first-at (suc n) f i l = go (ℕ-discrete i n) (first-at n f i)
+  where
+    go : Dec (i ≡ n) → (i < n → getD (firstValues n f) i 0 ≡ f i) → getD (firstValues (suc n) f) i 0 ≡ f i
+    go (yes e) before = getD-at (firstValues n f) (f n) [] 0 i (length-first n f ∙ sym e) ∙ ap f (sym e)
+    go (no e) before =
+        List·getD-append (firstValues n f) (f n ∷ []) 0 i (omega (arith, length-first n f)) ∙ before (omega arith)
+
+pub first-same : (n : ℕ) (f g : ℕ → ℕ) → ((i : ℕ) → i < n → f i ≡ g i) → firstValues n f ≡ firstValues n g
+unfolding firstValues
+first-same zero f g h = refl
+first-same (suc n) f g h =
+    ap₂ (λ (l : List ℕ) (x : ℕ). l ++ (x ∷ [])) (first-same n f g (λ i l. h i (omega arith))) (h n (omega arith))
+
+pub total-first : (n : ℕ) (f : ℕ → ℕ) → total (firstValues n f) ≡ sum n f
+unfolding firstValues sum total
+total-first zero f = refl
+total-first (suc n) f = omega (arith, total-append (firstValues n f) (f n ∷ []), total-first n f)
+
+-- ---- filling a list from the front
+
+-- the first i entries are the first values, and the others are as they were
+pub record Filled (f : ℕ → ℕ) (before now : List ℕ) (i : ℕ) : Type 0 where
+  pub within : i ≤ length before
+  pub is : now ≡ firstValues i f ++ drop i before
+
+module _ (f : ℕ → ℕ) (l : List ℕ) where
+  pub filled-none : Filled f l l 0
+  unfolding firstValues
+  filled-none = record { within = omega arith; is = refl }
+
+  module _ (now : List ℕ) (i : ℕ) (h : Filled f l now i) where
+    pub filled-length : length now ≡ length l
+    filled-length =
+        ap length (h .is)
+        ∙ length-append (firstValues i f) (drop i l)
+        ∙ omega (arith, length-first i f, length-drop i l, h .within)
+
+    parted : i < length l → now ≡ firstValues i f ++ (getD l i 0 ∷ drop (suc i) l)
+    parted k = h .is ∙ ap (λ (t : List ℕ). firstValues i f ++ t) (drop-cons l i 0 k)
+
+    -- the next entry is as it was
+    pub filled-next : i < length l → getD now i 0 ≡ getD l i 0
+    filled-next k =
+        ap (λ (t : List ℕ). getD t i 0) (parted k)
+        ∙ getD-at (firstValues i f) (getD l i 0) (drop (suc i) l) 0 i (length-first i f)
+
+    pub fill : (x : ℕ) → i < length l → x ≡ f i → Filled f l (set now i x) (i + 1)
+    unfolding firstValues
+    fill x k e = record {
+      within = omega arith;
+      is =
+          ap (λ (t : List ℕ). set t i x) (parted k)
+          ∙ set-at (firstValues i f) (getD l i 0) (drop (suc i) l) x i (length-first i f)
+          ∙ ap (λ (y : ℕ). firstValues i f ++ (y ∷ drop (suc i) l)) e
+          ∙ rw add-one (sym (append-assoc (firstValues i f) (f i ∷ []) (drop (suc i) l)));
+    }
+
+    pub filled-all : length l ≤ i → now ≡ firstValues (length l) f
+    filled-all g =
+        let all : i ≡ length l = omega (arith, h .within) in
+        h .is
+        ∙ ap (λ (t : List ℕ). firstValues i f ++ t) (drop-of-length-le l {i = i} g)
+        ∙ append-nil (firstValues i f)
+        ∙ ap (λ (n : ℕ). firstValues n f) all
+
+-- ---- the first n entries of an array, lent and filled
+
+pub part-below : (n k : ℕ) (l : List ℕ) → n < k → length (take n l) < k
+part-below n k l h = rw length-take (omega arith)
+
+module _ (n : ℕ) (f : ℕ → ℕ) (l part : List ℕ) (fits : n ≤ length l) (e : part ≡ firstValues (length (take n l)) f) where
+  part-is : part ≡ firstValues n f
+  part-is = e ∙ ap (λ (k : ℕ). firstValues k f) (length-take-le n l fits)
+
+  pub filled-part-is : take n (part ++ drop n l) ≡ firstValues n f
+  filled-part-is = take-at part (drop n l) n (ap length part-is ∙ length-first n f) ∙ part-is
+
+  pub filled-part-fits : n ≤ length (part ++ drop n l)
+  filled-part-fits = omega (arith, length-append part (drop n l), ap length part-is, length-first n f)
+
+-- ---- powers modulo p
+
+power-one : (b : ℕ) → b ^ 1 ≡ b
+power-one b = pow-succ' b 0 ∙ rw (pow-zero b) (omega arith)
+
+pub power-two : (b : ℕ) → b * b ≡ b ^ 2
+power-two b = sym (pow-succ' b 1 ∙ ap (λ (t : ℕ). b * t) (power-one b))
+
+pub counting-powers : (p n : ℕ) → n < p → oneTo n ≡ powersMod p 1 n
+counting-powers p n l =
+    first-same n _ _ (λ b k. sym (ap (residue p) (power-one (suc b)) ∙ residue-small p (suc b) (omega arith)))
+
+-- exponents add up
+pub powers-product : (p d e n : ℕ) → 0 < p → productsMod p (powersMod p d n) (powersMod p e n) ≡ powersMod p (d + e) n
+powers-product p d e n some =
+    ap (λ (k : ℕ). firstValues k products) (length-first n (power d)) ∙ first-same n products (power (d + e)) same
+  where
+    is : (x : ℕ) → residue p x ≡ x % p
+    is x = residue-is p x some
+
+    power : ℕ → ℕ → ℕ
+    power k b = residue p (suc b ^ k)
+
+    products : ℕ → ℕ
+    products b = mulMod p (getD (powersMod p d n) b 0) (getD (powersMod p e n) b 0)
+
+    same : (b : ℕ) → b < n → products b ≡ power (d + e) b
+    same b l =
+        ap₂ (mulMod p) (first-at n (power d) b l) (first-at n (power e) b l)
+        ∙ simp is (simp strip (mod-same p (sym (pow-add (suc b) d e))))
+
+pub powers-sum : (p e n : ℕ) → 0 < p → residue p (total (powersMod p e n)) ≡ sum n (λ b. suc b ^ e) % p
+powers-sum p e n some =
+    residue-is p _ some
+    ∙ mod-same p (total-first n _)
+    ∙ sum-cong p n _ _ (λ b l. mod-same p (residue-is p _ some) ∙ mod-mod _ p)
+
+-- ---- the constants
+
+second-at : (f : ℕ → ℕ) (n i k : ℕ) → k < n → getD (map f (everySecond n i)) k 0 ≡ f (i + 2 * k)
+unfolding everySecond
+second-at f zero i k l = absurd (omega arith)
+second-at f (suc n) i zero l = ap f (omega arith)
+second-at f (suc n) i (suc k) l = second-at f n (suc (suc i)) k (omega arith) ∙ ap f (omega arith)
+
+length-odd : (p : ℕ) → length (oddConstants p) ≡ p / 2
+unfolding oddConstants
+length-odd p = length-map (everySecond (p / 2) 1) (orderConstant p) ∙ length-second (p / 2) 1
+
+odd-from : (p k : ℕ) → k < p / 2 → drop k (oddConstants p) ≡ orderConstant p (1 + 2 * k) ∷ drop (suc k) (oddConstants p)
+unfolding oddConstants
+odd-from p k l =
+    drop-cons (oddConstants p) k 0 (omega (arith, length-odd p))
+    ∙ ap (λ (x : ℕ). x ∷ drop (suc k) (oddConstants p)) (second-at (orderConstant p) (p / 2) 1 k l)
+
+module _ (p : ℕ) (odd : p % 2 ≡ 1) where
+  -- the sum of the powers that stand there where k constants are left after this one
+  constant-sum : (k : ℕ) → k < p / 2 → residue p (total (powersMod p (1 + 2 * (p / 2 - suc k)) (p / 2))) ≡ orderConstant p (1 + 2 * k)
+  constant-sum k l =
+      let e : 1 + 2 * (p / 2 - suc k) ≡ 2 * (p / 2) - (1 + 2 * k) = omega arith in
+      rw e (powers-sum p (2 * (p / 2) - (1 + 2 * k)) (p / 2) (omega arith)) ∙ sym (constant-odd p (p / 2) (omega arith) k l)
+
+  constants-are : orderConstants p ≡ oddConstants p ++ (suc (p / 2) ∷ [])
+  unfolding orderConstants orderExponents oddConstants
+  constants-are =
+      let half : (p - 1) / 2 ≡ p / 2 = omega arith in
+      map-append (orderConstant p) (everySecond ((p - 1) / 2) 1) ((p - 1) ∷ [])
+      ∙ rw (half, constant-last p (p / 2) (omega arith))
+
+  -- the last constant, and those before it
+  pub constants-with-last : (half : ℕ) (entry exit : List ℕ) → half ≡ p / 2 → p / 2 + 1 ≤ length entry
+      → exit ≡ oddConstants p ++ drop (p / 2) (set entry half (p / 2 + 1)) → exit ≡ orderConstants p ++ drop (p / 2 + 1) entry
+  constants-with-last half entry exit is l e =
+      e
+      ∙ ap (λ (k : ℕ). oddConstants p ++ drop h (set entry k (h + 1))) is
+      ∙ ap (λ (t : List ℕ). oddConstants p ++ t)
+      (drop-cons (set entry h (h + 1)) h 0 (rw length-set (omega arith))
+      ∙ ap₂ (λ (x : ℕ) (t : List ℕ). x ∷ t) (getD-set-same entry h (h + 1) 0 (omega arith) ∙ add-one h) (drop-set-lt (suc h) entry h (h + 1) (omega arith)))
+      ∙ sym (append-assoc (oddConstants p) (suc h ∷ []) (drop (suc h) entry))
+      ∙ rw (← constants-are, add-one)
+    where
+      h : ℕ
+      h = p / 2
+
+-- ---- writing them from the last one down
+
+-- with m constants to write: those after them stand there, and the powers are those that the next one sums
+pub record Descending (p : ℕ) (before constants powers : List ℕ) (m : ℕ) : Type 0 where
+  pub within : m ≤ p / 2
+  pub long : length constants ≡ length before
+  pub raised : powers ≡ powersMod p (1 + 2 * (p / 2 - m)) (p / 2)
+  pub written : drop m constants ≡ drop m (oddConstants p) ++ drop (p / 2) before
+
+pub descend-begin : (p : ℕ) (before powers : List ℕ) → powers ≡ powersMod p 1 (p / 2) → Descending p before before powers (length powers)
+descend-begin p before powers e =
+    let all : length powers ≡ p / 2 = ap length e ∙ length-first (p / 2) _ in
+    let none : p / 2 - p / 2 ≡ 0 = omega arith in
+    rw all record {
+      within = omega arith;
+      long = refl;
+      raised = rw none e;
+      written = rw (drop-of-length-le (oddConstants p) {i = p / 2} (omega (arith, length-odd p)));
+    }
+
+module _ (p : ℕ) (before constants powers : List ℕ) where
+  pub length-powers : (m : ℕ) → Descending p before constants powers m → length powers ≡ p / 2
+  length-powers m u = ap length (u .raised) ∙ length-first (p / 2) _
+
+  -- one constant down
+  down : (k x : ℕ) (squares next : List ℕ) → p % 2 ≡ 1 → p / 2 ≤ length before → squares ≡ powersMod p 2 (p / 2) → Descending p before constants powers (suc k)
+      → x ≡ residue p (total powers) → next ≡ productsMod p powers squares → Descending p before (set constants k x) next k
+  down k x squares next odd room e u sum product = record {
+    within = omega (arith, u .within);
+    long = length-set constants k x ∙ u .long;
+    raised =
+        product
+        ∙ ap₂ (productsMod p) (u .raised) e
+        ∙ powers-product p _ 2 (p / 2) (omega arith)
+        ∙ ap (λ (i : ℕ). powersMod p i (p / 2)) (omega (arith, u .within));
+    written =
+        drop-cons (set constants k x) k 0 inside
+        ∙ ap₂ (λ (y : ℕ) (t : List ℕ). y ∷ t)
+        (getD-set-same constants k x 0 (omega (arith, u .within, u .long)) ∙ sum ∙ ap (λ (t : List ℕ). residue p (total t)) (u .raised) ∙ constant-sum p odd k (omega (arith, u .within)))
+        (drop-set-lt (suc k) constants k x (omega arith) ∙ u .written)
+        ∙ sym (ap (λ (t : List ℕ). t ++ drop (p / 2) before) (odd-from p k (omega (arith, u .within))));
+  }
+    where
+      inside : k < length (set constants k x)
+      inside = rw length-set (omega (arith, u .within, u .long))
+
+  pub descend-one : (m x : ℕ) (squares next : List ℕ) → p % 2 ≡ 1 → p / 2 ≤ length before → squares ≡ powersMod p 2 (p / 2) → 0 < m → Descending p before constants powers m
+      → x ≡ residue p (total powers) → next ≡ productsMod p powers squares → Descending p before (set constants (m - 1) x) next (m - 1)
+  descend-one zero x squares next odd room e l u sum product = absurd (omega arith)
+  descend-one (suc k) x squares next odd room e l u sum product = simp sub-one (down k x squares next odd room e u sum product)
+
+  pub descended : (m : ℕ) → m ≤ 0 → Descending p before constants powers m → constants ≡ oddConstants p ++ drop (p / 2) before
+  descended zero l u = u .written
+  descended (suc m) l u = absurd (omega arith)

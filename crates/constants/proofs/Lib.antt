@@ -1,0 +1,3 @@
+-- Laws of the order constants, as they are computed.
+pub mod Reciprocal
+pub mod Constants

@@ -1,0 +1,4 @@
+-- Laws of the forecast.
+pub mod Counting
+pub mod AddingUp
+pub mod Forecasting

@@ -1,0 +1,224 @@
+// Forecast.
+use answer::Depth;
+use answer::Report;
+use answer::Reported;
+use card::CardHead;
+use card::CardRead;
+use card::ConditionRead;
+use card::HEAD;
+use card::RECORD;
+use relations::Relation;
+ghost use mathlib.Core.Path.{_≡_};
+ghost use mathlib.Core.Bool.{true, false};
+ghost use Prim.Native.Nat.{_*_, _^_, _≤_};
+ghost use lib.ListN.{length};
+ghost use Rattle.answer.specs.Outcome.{accepted};
+ghost use Rattle.answer.specs.Report.{reportAnswer};
+ghost use Rattle.answer.specs.declared.Reported.the-variants.{Success};
+ghost use Rattle.field.specs.Logarithm.{clog};
+ghost use Rattle.digits.specs.Number.{mostDigits};
+ghost use Rattle.comparison.specs.Bits.{ones};
+ghost use Rattle.query.specs.Card.{mostConditions};
+ghost use Rattle.query.specs.Outcomes.{forecasting};
+ghost use Rattle.forecast.specs.Counting.{mostInDigit, mostJoined, mostInCondition, Within, digitCounts, joinedCounts, endedCounts, conditionCounts, TotalsWithin, totalsRead, InRanges, reportFrom};
+ghost use Rattle.relations.specs.Relations.{relationIs};
+ghost use Rattle.card.specs.Parts.{headIs, readSummary};
+
+// How many gates, products and squares there are in a digit or a condition.
+struct Counts {
+    gates: u32,
+    products: u32,
+    squares: u32,
+}
+
+// The counts of all conditions together, and the sum of 2^ceil(log2 n) over them.
+struct Totals {
+    gates: u32,
+    products: u32,
+    squares: u32,
+    breadth: u32,
+}
+
+// How many bits of t are set.
+fn count_ones(t: u16) -> u16
+    ensures { λ r. ⌜ (r ≡ ones t) × (r ≤ t) ⌝ }
+{
+    let mut rest = t;
+    let mut set = 0;
+    while 0 < rest {
+        set += rest % 2;
+        rest = rest / 2;
+    }
+    set
+}
+
+// 2^ceil(log2 n).
+fn power_above(n: u8) -> u8
+    requires { ⌜ n ≤ mostDigits ⌝ }
+    ensures { λ r. ⌜ (r ≡ 2 ^ clog n) × (r ≤ 32) ⌝ }
+{
+    let mut power = 1;
+    while power < n {
+        power = 2 * power;
+    }
+    power
+}
+
+// What a digit of an order condition has.
+fn order_digit(prime: u8) -> Counts
+    requires { ⌜ 3 ≤ prime ⌝ }
+    ensures { λ r. ⌜ (r ≡ digitCounts true prime) × Within mostInDigit r ⌝ }
+{
+    let p = prime as u32;
+    Counts {
+        gates: p + 4 + (p - 3) / 2 + (p - 1) / 4,
+        products: (p - 3) / 2,
+        squares: (p - 1) / 4 + 1,
+    }
+}
+
+// What a digit of an equality condition has.
+fn equality_digit(prime: u8) -> Counts
+    requires { ⌜ 3 ≤ prime ⌝ }
+    ensures { λ r. ⌜ (r ≡ digitCounts false prime) × Within mostInDigit r ⌝ }
+{
+    let t = (prime - 1) as u16;
+    let log = arithmetic::floor_log2(t) as u32;
+    let ones = count_ones(t) as u32;
+    Counts {
+        gates: 3 + log + ones,
+        products: ones - 1,
+        squares: log,
+    }
+}
+
+// What n digits and their order joining have.
+fn join_order(n: u8, digit: Counts) -> Counts
+    requires { ⌜ (1 ≤ n) × (n ≤ mostDigits) × Within mostInDigit digit ⌝ }
+    ensures { λ r. ⌜ (r ≡ joinedCounts true n digit) × Within mostJoined r ⌝ }
+{
+    let digits = n as u32;
+    let log = arithmetic::floor_log2(n as u16) as u32;
+    Counts {
+        gates: digits * digit.gates + 4 * (digits - 1) - log,
+        products: digits * digit.products + (2 * digits - 2 - log),
+        squares: digits * digit.squares,
+    }
+}
+
+// What n digits and their product tree have.
+fn join_equality(n: u8, digit: Counts) -> Counts
+    requires { ⌜ (1 ≤ n) × (n ≤ mostDigits) × Within mostInDigit digit ⌝ }
+    ensures { λ r. ⌜ (r ≡ joinedCounts false n digit) × Within mostJoined r ⌝ }
+{
+    let digits = n as u32;
+    Counts {
+        gates: digits * digit.gates + (digits - 1),
+        products: digits * digit.products + (digits - 1),
+        squares: digits * digit.squares,
+    }
+}
+
+// With the FLIP of its relation, if that ends with one.
+fn end_condition(relation: Relation, joined: Counts) -> Counts
+    requires { ⌜ Within mostJoined joined ⌝ }
+    ensures { λ r. ⌜ (r ≡ endedCounts (relationIs relation) joined) × Within mostInCondition r ⌝ }
+{
+    if relations::is_flipped(relation) {
+        return Counts {
+            gates: joined.gates + 1,
+            products: joined.products,
+            squares: joined.squares,
+        };
+    }
+    joined
+}
+
+// What a condition has, from what a digit of each sort has.
+fn count_condition(relation: Relation, n: u8, order: Counts, equality: Counts) -> Counts
+    requires { ⌜ (1 ≤ n) × (n ≤ mostDigits) × Within mostInDigit order × Within mostInDigit equality ⌝ }
+    ensures { λ r. ⌜ (r ≡ conditionCounts (relationIs relation) n order equality) × Within mostInCondition r ⌝ }
+{
+    if relations::is_order(relation) {
+        return end_condition(relation, join_order(n, order));
+    }
+    end_condition(relation, join_equality(n, equality))
+}
+
+// What the first count records have together, and nothing where one of them is refused.
+fn count_conditions(records: &[u8], count: usize, prime: u8) -> Totals
+    requires { ⌜ (count ≤ mostConditions) × (4 * count ≤ length (now records)) × (3 ≤ prime) ⌝ }
+    ensures { λ r. ⌜ (r ≡ totalsRead prime count (now (records .entry))) × TotalsWithin mostConditions r ⌝ }
+{
+    let order = order_digit(prime);
+    let equality = equality_digit(prime);
+    let mut gates: u32 = 0;
+    let mut products: u32 = 0;
+    let mut squares: u32 = 0;
+    let mut breadth: u32 = 0;
+    let mut k = 0;
+    while k < count {
+        let at = RECORD * k;
+        match card::read_condition(&records[at..]) {
+            ConditionRead::Read { relation, digits } => {
+                let own = count_condition(relation, digits, order, equality);
+                gates += own.gates;
+                products += own.products;
+                squares += own.squares;
+                breadth += power_above(digits) as u32;
+            }
+            ConditionRead::Refused(_) => {
+                return Totals {
+                    gates: 0,
+                    products: 0,
+                    squares: 0,
+                    breadth: 0,
+                };
+            }
+        }
+        k += 1;
+    }
+    Totals {
+        gates,
+        products,
+        squares,
+        breadth,
+    }
+}
+
+// The five numbers: those of the conditions, and the product tree over their outputs.
+fn report_on(head: CardHead, totals: Totals) -> Report
+    requires { ⌜ InRanges (headIs head) × TotalsWithin mostConditions totals ⌝ }
+    ensures { λ r. ⌜ reportAnswer (Success r) ≡ accepted (reportFrom (headIs head) totals) ⌝ }
+{
+    let tree = (head.count - 1) as u32;
+    let products = totals.products + tree;
+    let levels = arithmetic::ceil_log2((head.prime - 1) as u16);
+    Report {
+        gates: (totals.gates + tree) as u16,
+        products: products as u16,
+        squares: totals.squares as u16,
+        cost: answer::cost_of(products, totals.squares, head.weight),
+        depth: Depth(levels + arithmetic::ceil_log2(totals.breadth as u16)),
+    }
+}
+
+// The report on the table of a card that was read.
+pub fn forecast_read(card: &[u8], head: CardHead) -> Report
+    requires { ⌜ accepted (headIs head) ≡ readSummary (now card) ⌝ }
+    ensures { λ r. ⌜ reportAnswer (Success r) ≡ forecasting (now (card .entry)) ⌝ }
+{
+    let count = arithmetic::wide(head.count);
+    let totals = count_conditions(&card[HEAD..], count, head.prime);
+    report_on(head, totals)
+}
+
+// The report on a card's table from the card alone, or the first rule that the card breaks.
+pub fn forecast(card: &[u8]) -> Reported
+    ensures { λ r. ⌜ reportAnswer r ≡ forecasting (now (card .entry)) ⌝ }
+{
+    match card::read_card(card) {
+        CardRead::Read(head) => Reported::Success(forecast_read(card, head)),
+        CardRead::Refused(why) => Reported::Refused(why),
+    }
+}

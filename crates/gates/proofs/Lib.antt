@@ -1,0 +1,2 @@
+-- Laws of one gate.
+pub mod Adding

@@ -1,0 +1,37 @@
+-- `gates::flip_gate` meets its contract: at each return the tests on the way decide rule 17.
+-- Assumes nothing.
+use mathlib.Core.Bool.{and-false}
+use borrow.Author.Needs.{needs}
+use borrow.Author.Tests.{lt-ltb, le-ltb, eq-eqb, ne-eqb}
+use Rattle.gates.proofs.flip_gate.Statement.{statement}
+use Rattle.gates.proofs.flip_gate.Tie as tie
+
+returns : tie.Need-returns
+returns c = search (le-ltb)
+
+returns-2 : tie.Need-returns-2
+returns-2 c = rw (ne-eqb _ _ (c .if2 .taken), and-false)
+
+mul-linear-at : tie.Need-mul-linear-at
+mul-linear-at c = search needs
+
+shared-slice-read-linear-at : tie.Need-shared-slice-read-linear-at
+shared-slice-read-linear-at c = search needs
+
+linear-at-requires : tie.Need-linear-at-requires
+linear-at-requires c κs = search needs
+
+returns-3 : tie.Need-returns-3
+returns-3 c =
+    let e = c .before .before in rw (lt-ltb _ _ (e .before .if1 .left), eq-eqb _ _ (e .if2 .left)) (c .linear-at .ensures)
+
+pub flip-gate-spec : {M : Type 1} → statement M
+flip-gate-spec =
+    tie.close
+    (tie.spec
+    returns
+    returns-2
+    mul-linear-at
+    shared-slice-read-linear-at
+    linear-at-requires
+    returns-3)

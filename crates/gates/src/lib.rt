@@ -1,0 +1,157 @@
+// One gate of a table: the rules that its record keeps, its depth, and what it adds to the counts.
+use answer::Refusal;
+use records::GATE_MARK;
+use records::TableHead;
+ghost use mathlib.Core.Path.{_≡_};
+ghost use mathlib.Core.Bool.{_&&_};
+ghost use Prim.Native.Nat.{suc, _≤_};
+ghost use lib.Dec.{ltb, eqb};
+ghost use lib.ListN.{length, getD};
+ghost use Rattle.answer.specs.Outcome.{accepted};
+ghost use Rattle.circuit.specs.Constant.{isConstant};
+ghost use Rattle.circuit.specs.Reading.{readFields, readGate};
+ghost use Rattle.records.specs.Head.{headIs};
+ghost use Rattle.gates.specs.Adding.{linear, isEarlier, deeperOf, multiplied, operands, adding, AreLow, addedAnswer};
+
+// What a gate adds to the report on the gates before it, or why it is refused.
+pub enum Added {
+    Counted {
+        depth: u16,
+        products: u32,
+        squares: u32,
+    },
+    Refused(Refusal),
+}
+
+// A gate that is no MUL, at a depth.
+fn linear_at(depth: u16) -> Added
+    ensures { λ r. ⌜ addedAnswer r ≡ accepted (linear depth) ⌝ }
+{
+    Added::Counted {
+        depth,
+        products: 0,
+        squares: 0,
+    }
+}
+
+// LEFT and RIGHT.
+fn slot_gate(a: usize, b: usize, slots: usize) -> Added
+    ensures { λ r. ⌜ addedAnswer r ≡ operands (ltb a slots && eqb b 0) (linear 0) ⌝ }
+{
+    if slots <= a {
+        return Added::Refused(Refusal::WrongOperand);
+    }
+    if b != 0 {
+        return Added::Refused(Refusal::WrongOperand);
+    }
+    linear_at(0)
+}
+
+// ADD and SUB.
+fn sum_gate(a: usize, b: usize, earlier: &[u16]) -> Added
+    ensures { λ r. ⌜ addedAnswer r ≡ operands (isEarlier (now (earlier .entry)) a && isEarlier (now (earlier .entry)) b) (linear (deeperOf (now (earlier .entry)) a b)) ⌝ }
+{
+    if earlier.len() <= a {
+        return Added::Refused(Refusal::WrongOperand);
+    }
+    if earlier.len() <= b {
+        return Added::Refused(Refusal::WrongOperand);
+    }
+    linear_at(answer::deeper(earlier[a], earlier[b]))
+}
+
+// SCALE.
+fn scale_gate(a: usize, b: usize, prime: usize, earlier: &[u16]) -> Added
+    ensures { λ r. ⌜ addedAnswer r ≡ operands (isEarlier (now (earlier .entry)) a && isConstant prime b) (linear (getD (now (earlier .entry)) a 0)) ⌝ }
+{
+    if earlier.len() <= a {
+        return Added::Refused(Refusal::WrongOperand);
+    }
+    if prime <= b {
+        return Added::Refused(Refusal::WrongOperand);
+    }
+    linear_at(earlier[a])
+}
+
+// FLIP.
+fn flip_gate(a: usize, b: usize, earlier: &[u16]) -> Added
+    ensures { λ r. ⌜ addedAnswer r ≡ operands (isEarlier (now (earlier .entry)) a && eqb b 0) (linear (getD (now (earlier .entry)) a 0)) ⌝ }
+{
+    if earlier.len() <= a {
+        return Added::Refused(Refusal::WrongOperand);
+    }
+    if b != 0 {
+        return Added::Refused(Refusal::WrongOperand);
+    }
+    linear_at(earlier[a])
+}
+
+// A product or a square at a depth.
+fn product_at(depth: u16, a: usize, b: usize) -> Added
+    ensures { λ r. ⌜ addedAnswer r ≡ accepted (multiplied a b depth) ⌝ }
+{
+    if a == b {
+        return Added::Counted {
+            depth,
+            products: 0,
+            squares: 1,
+        };
+    }
+    Added::Counted {
+        depth,
+        products: 1,
+        squares: 0,
+    }
+}
+
+// MUL: one level more than a sum over the same gates.
+fn mul_gate(a: usize, b: usize, earlier: &[u16]) -> Added
+    requires { ⌜ AreLow (now earlier) ⌝ }
+    ensures { λ r. ⌜ addedAnswer r ≡ operands (isEarlier (now (earlier .entry)) a && isEarlier (now (earlier .entry)) b) (multiplied a b (suc (deeperOf (now (earlier .entry)) a b))) ⌝ }
+{
+    match sum_gate(a, b, earlier) {
+        Added::Counted {
+            depth,
+            products: _,
+            squares: _,
+        } => product_at(depth + 1, a, b),
+        Added::Refused(why) => Added::Refused(why),
+    }
+}
+
+// What a gate adds that comes after others, whose depths are given; or 16 or 17.
+fn add_gate(kind: u8, a: usize, b: usize, head: TableHead, earlier: &[u16]) -> Added
+    requires { ⌜ AreLow (now earlier) ⌝ }
+    ensures { λ r. ⌜ addedAnswer r ≡ adding (now (earlier .entry)) (readFields (headIs head) (length (now (earlier .entry))) kind a b) ⌝ }
+{
+    match kind {
+        1 => slot_gate(a, b, arithmetic::wide(head.slots)),
+        2 => slot_gate(a, b, arithmetic::wide(head.slots)),
+        3 => sum_gate(a, b, earlier),
+        4 => sum_gate(a, b, earlier),
+        5 => scale_gate(a, b, arithmetic::wide(head.prime), earlier),
+        6 => flip_gate(a, b, earlier),
+        7 => mul_gate(a, b, earlier),
+        _ => Added::Refused(Refusal::UnknownKind),
+    }
+}
+
+// What the gate adds whose record the bytes begin with, or the first of its rules that is broken.
+pub fn read_gate(bytes: &[u8], head: TableHead, earlier: &[u16]) -> Added
+    requires { ⌜ (8 ≤ length (now bytes)) × AreLow (now earlier) ⌝ }
+    ensures { λ r. ⌜ addedAnswer r ≡ adding (now (earlier .entry)) (readGate (headIs head) (length (now (earlier .entry))) (now (bytes .entry))) ⌝ }
+{
+    if records::lacks_mark(bytes, GATE_MARK) {
+        return Added::Refused(Refusal::WrongMark);
+    }
+    if bytes[3] != 0 {
+        return Added::Refused(Refusal::SpareNotZero);
+    }
+    add_gate(
+        bytes[2],
+        records::u16_at(bytes, 4),
+        records::u16_at(bytes, 6),
+        head,
+        earlier,
+    )
+}

@@ -1,0 +1,2 @@
+-- Laws of the powers and their depths.
+pub mod Powers

@@ -1,0 +1,69 @@
+// Records, as they stand in bytes: marks, numbers of two bytes, ranges, and the head of a table.
+ghost use mathlib.Core.Path.{_≡_};
+ghost use mathlib.Core.Bool.{_||_};
+ghost use Prim.Native.Nat.{_+_, _≤_, _<_};
+ghost use lib.Dec.{ltb};
+ghost use lib.ListN.{length};
+ghost use Rattle.circuit.specs.Bytes.{wrongMark, u16At};
+ghost use Rattle.circuit.specs.Reading.{headOf};
+ghost use Rattle.records.specs.Marks.{markOf};
+ghost use Rattle.records.specs.Head.{headIs};
+
+// The marks of a head and of a gate.
+pub const HEAD_MARK: [u8; 2] = [0x47, 0x48];
+
+pub const GATE_MARK: [u8; 2] = [0x47, 0x54];
+
+// The bytes of a record.
+pub const RECORD: usize = 8;
+
+// The most gates of a table.
+pub const MOST_GATES: usize = 8191;
+
+// The prime, the weight of a square and the slot count.
+pub struct TableHead {
+    pub prime: u8,
+    pub weight: u8,
+    pub slots: u8,
+}
+
+// Two bytes, the low one first.
+pub fn u16_at(bytes: &[u8], at: usize) -> usize
+    requires { ⌜ at + 2 ≤ length (now bytes) ⌝ }
+    ensures { λ r. ⌜ (r ≡ u16At (now (bytes .entry)) at) × (r < 65536) ⌝ }
+{
+    arithmetic::wide(bytes[at]) + 256 * arithmetic::wide(bytes[at + 1])
+}
+
+// Whether bytes open with another pair than a mark.
+pub fn lacks_mark(bytes: &[u8], mark: [u8; 2]) -> bool
+    requires { ⌜ 2 ≤ length (now bytes) ⌝ }
+    ensures { λ r. ⌜ r ≡ wrongMark (markOf mark) (now (bytes .entry)) ⌝ }
+{
+    if bytes[0] != mark[0] {
+        return true;
+    }
+    bytes[1] != mark[1]
+}
+
+// Whether x is below or above a range.
+pub fn outside(x: usize, low: usize, high: usize) -> bool
+    ensures { λ r. ⌜ r ≡ (ltb x low || ltb high x) ⌝ }
+{
+    if x < low {
+        return true;
+    }
+    high < x
+}
+
+// What the bytes of a head say.
+pub fn head_at(table: &[u8]) -> TableHead
+    requires { ⌜ 5 ≤ length (now table) ⌝ }
+    ensures { λ r. ⌜ headIs r ≡ headOf (now (table .entry)) ⌝ }
+{
+    TableHead {
+        prime: table[2],
+        weight: table[3],
+        slots: table[4],
+    }
+}

@@ -1,0 +1,4 @@
+-- Laws of Run.
+pub mod Value
+pub mod Running
+pub mod RunOutcome

@@ -1,2 +1,0 @@
--- What programs in Rust and C are told.
-pub mod Told

@@ -1,0 +1,28 @@
+-- Every case of the table comes out as document 01 says, by computing the definitions.
+-- Assumes nothing.
+use mathlib.Core.Path.{_≡_, refl}
+use mathlib.Core.List.{map}
+use Rattle.field.specs.Logarithm.{clog, flog}
+use Rattle.field.specs.Modular.{residue}
+use Rattle.field.specs.Polynomials.{orderConstants}
+use Rattle.field.specs.Primes.{primes, member, listed}
+use Rattle.field.specs.Sum.{sum, total}
+use Rattle.digits.specs.Number.{number, allBelow, digitsOf}
+use Rattle.circuit.specs.Count.{count}
+use Rattle.circuit.specs.Meaning.{interpret}
+use Rattle.circuit.specs.ProductTree.{least, multiply}
+use Rattle.circuit.specs.Reading.{readGates}
+use Rattle.circuit.specs.Table.{gatesBytes}
+use Rattle.comparison.specs.Bits.{ones}
+use Rattle.comparison.specs.Digits.{digitsFrom}
+use Rattle.comparison.specs.EqualityDigit.{chain}
+use Rattle.comparison.specs.Joining.{halves, joinLowest}
+use Rattle.comparison.specs.OrderDigit.{ascending, powerGate, laterTerms}
+use Rattle.comparison.specs.Writing.{equalityFactors, conditionSegment}
+use Rattle.query.specs.Reading.{readConditions}
+use Rattle.query.specs.Whole.{addAll}
+use Rattle.starred.specs.Starred.{Case, starred}
+
+pub starred-cases : map (λ (c : Case). c .given) starred ≡ map (λ (c : Case). c .said) starred
+unfolding starred orderConstants listed member primes number sum allBelow digitsOf readConditions total addAll conditionSegment digitsFrom ascending powerGate laterTerms chain ones halves joinLowest equalityFactors multiply least flog clog count interpret gatesBytes readGates residue
+starred-cases = refl

@@ -1,0 +1,2 @@
+-- To be believed by a reader of the promises: the cases that document 01 marks with *, as one table.
+pub mod Starred
