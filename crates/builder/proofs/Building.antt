@@ -24,6 +24,7 @@ use Rattle.circuit.specs.Report.{report}
 use Rattle.circuit.specs.Segment as segment
 use Rattle.circuit.specs.Table.{Head, headBytes, mostGates}
 use Rattle.circuit.proofs.Bounds.{counts-below}
+use Rattle.circuit.proofs.Count.{all-counted}
 use Rattle.circuit.proofs.Every.{every-map}
 use Rattle.circuit.proofs.ProductTree.{multiply-length}
 use Rattle.comparison.specs.Condition.{Condition}
@@ -144,7 +145,8 @@ module _ (bytes : List ℕ) (card : Card) (e : readCard bytes ≡ accepted card)
 
     reported : reportIs pen₃ deep (card .weight) ≡ report (tableOf card)
     reported =
-        rw (wrote .number ∙ zero-add _, wrote .products ∙ zero-add _, wrote .squares ∙ zero-add _, deep-is)
+        let same = all-counted (tableOf card .gates) in
+        rw (wrote .number ∙ zero-add _, wrote .products ∙ zero-add _ ∙ sym (same .0), wrote .squares ∙ zero-add _ ∙ sym (same .1), deep-is)
 
     pub answers : accepted (reportIs pen₃ deep (card .weight)) ≡ building bytes lent .answer
     answers = rw (built bytes lent card e room) (ap accepted reported)

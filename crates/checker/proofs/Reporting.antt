@@ -10,12 +10,13 @@ use lib.ListN.{length, drop, length-append}
 use Rattle.answer.specs.Outcome.{Answer, refused, accepted, onAnswer}
 use Rattle.answer.specs.Report.{Report}
 use Rattle.field.specs.Bit.{bit}
-use Rattle.circuit.specs.Count.{isProduct, isSquare, count, products, squares}
+use Rattle.circuit.specs.Count.{isProduct, isSquare, count}
 use Rattle.circuit.specs.Depth.{depths}
 use Rattle.circuit.specs.Gate.{Gate}
 use Rattle.circuit.specs.Meaning.{entryOf, interpret}
 use Rattle.circuit.specs.Reading.{readGate, readGates}
 use Rattle.circuit.specs.Table.{Head}
+use Rattle.circuit.proofs.Count.{all-counted}
 use Rattle.gates.specs.Adding.{addition}
 use Rattle.checker.specs.Reporting.{reporting}
 
@@ -23,9 +24,9 @@ use Rattle.checker.specs.Reporting.{reporting}
 abbrev pub tally : ℕ → List ℕ → ℕ → ℕ → List Gate → Report
 tally s earlier m q gs = record {
   gates = length earlier + length gs;
-  products = m + products gs;
-  squares = q + squares gs;
-  cost = 100 * (m + products gs) + s * (q + squares gs);
+  products = m + count isProduct gs;
+  squares = q + count isSquare gs;
+  cost = 100 * (m + count isProduct gs) + s * (q + count isSquare gs);
   depth = entryOf depths (interpret depths earlier gs) (length earlier + length gs - 1);
 }
 
@@ -35,7 +36,8 @@ tallying head earlier m q read = onAnswer read refused (λ gs. accepted (tally (
 pub none-yet : (head : Head) (read : Answer (List Gate)) → tallying head [] 0 0 read ≡ reporting head read
 none-yet head (refused n) = refl
 none-yet head (accepted gs) =
-    ap accepted (rw (zero-add (length gs), zero-add (products gs), zero-add (squares gs)))
+    ap accepted
+    (rw (zero-add (length gs), zero-add (count isProduct gs), zero-add (count isSquare gs), all-counted gs .0, all-counted gs .1))
 
 -- the depths, with that of one gate more
 abbrev pub deepened : List ℕ → Gate → List ℕ
@@ -46,8 +48,8 @@ one-more : (s : ℕ) (earlier : List ℕ) (m q : ℕ) (g : Gate) (gs : List Gate
 unfolding interpret count
 one-more s earlier m q g gs =
     let size : length earlier + suc (length gs) ≡ length (deepened earlier g) + length gs = rw length-append (omega arith) in
-    let product : m + (bit (isProduct g) + products gs) ≡ m + bit (isProduct g) + products gs = omega arith in
-    let square : q + (bit (isSquare g) + squares gs) ≡ q + bit (isSquare g) + squares gs = omega arith in
+    let product : m + (bit (isProduct g) + count isProduct gs) ≡ m + bit (isProduct g) + count isProduct gs = omega arith in
+    let square : q + (bit (isSquare g) + count isSquare gs) ≡ q + bit (isSquare g) + count isSquare gs = omega arith in
     rw (size, product, square)
 
 -- the first gate of those that are left

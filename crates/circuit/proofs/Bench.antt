@@ -5,13 +5,13 @@ use Rattle.field.specs.Modular.{residue}
 use Rattle.field.specs.Primes.{member, primes, listed}
 use Rattle.digits.specs.Number.{allBelow}
 use Rattle.circuit.specs.Bench.{BenchReports, BenchOutputs, BenchRun}
-use Rattle.circuit.specs.Count.{count}
+use Rattle.circuit.specs.Count.{counted, count}
 use Rattle.circuit.specs.Meaning.{interpret}
 use Rattle.circuit.specs.Reading.{readGates}
 use Rattle.circuit.specs.Table.{gatesBytes}
 
 pub bench-reports : BenchReports
-unfolding listed member primes gatesBytes readGates interpret count
+unfolding listed member primes gatesBytes readGates interpret counted count
 bench-reports = (refl, refl)
 
 pub bench-outputs : BenchOutputs

@@ -18,8 +18,8 @@ isSquare g = isMul g && eqb (fields g .a) (fields g .b)
 abbrev pub isProduct : Gate → Bool
 isProduct g = isMul g && not (eqb (fields g .a) (fields g .b))
 
--- "over all records"
-abbrev pub counted : List Gate → List Gate
+-- "over all records": the gates of a table that count
+unfoldable pub counted : List Gate → List Gate
 counted gates = gates
 
 -- how many gates pass a test
@@ -27,6 +27,7 @@ unfoldable pub count : (Gate → Bool) → List Gate → ℕ
 count test [] = 0
 count test (g ∷ gs) = bit (test g) + count test gs
 
+-- those of a finished table
 abbrev pub products : List Gate → ℕ
 products gates = count isProduct (counted gates)
 

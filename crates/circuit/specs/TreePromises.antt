@@ -6,7 +6,7 @@ use mathlib.Core.List.{List, _∷_, _++_, map, List·Permᴰ}
 use Prim.Native.Nat.{ℕ, _-_, _%_, _≤_, _<_}
 use lib.ListN.{length}
 use Rattle.field.specs.Logarithm.{clog}
-use Rattle.circuit.specs.Count.{products, squares}
+use Rattle.circuit.specs.Count.{isSquare, isProduct, count}
 use Rattle.circuit.specs.Depth.{depths}
 use Rattle.circuit.specs.Every.{Every}
 use Rattle.circuit.specs.Factors.{InOrder, Precedes, breadth, product}
@@ -52,7 +52,7 @@ abbrev pub ProductCount : Type 0
 ProductCount =
     (k : ℕ) (factors : List Node) → 1 ≤ length factors → InOrder 0 k factors
     → let gates = productTree k factors .gates in
-    (length gates ≡ length factors - 1) × (products gates ≡ length factors - 1) × (squares gates ≡ 0)
+    (length gates ≡ length factors - 1) × (count isProduct gates ≡ length factors - 1) × (count isSquare gates ≡ 0)
 
 -- the gates name only lower gates
 abbrev pub ProductFits : Type 0

@@ -13,7 +13,7 @@ use Rattle.field.specs.Primes.{Prime}
 use Rattle.field.proofs.Bit.{flip-bit}
 use Rattle.field.proofs.Logarithm.{flog-less}
 use Rattle.digits.specs.Number.{base, allBelow}
-use Rattle.circuit.specs.Count.{count, isProduct, isSquare, products, squares}
+use Rattle.circuit.specs.Count.{count, isProduct, isSquare}
 use Rattle.circuit.specs.Depth.{depths}
 use Rattle.circuit.specs.Gate.{Gate, Flip}
 use Rattle.circuit.specs.Meaning.{Algebra, entryAt}
@@ -112,14 +112,14 @@ module _ (p : ℕ) (three : 3 ≤ p) (odd : p % 2 ≡ 1) (c : Condition) (some :
       go true e = order-fits p three odd c e some k head prime l r
       go false e = equality-fits p three odd c e some k head prime l r
 
-  body-counts : (products (body .gates) ≡ productsOf order p (c .digits)) × (squares (body .gates) ≡ squaresOf order p (c .digits))
+  body-counts : (count isProduct (body .gates) ≡ productsOf order p (c .digits)) × (count isSquare (body .gates) ≡ squaresOf order p (c .digits))
   body-counts = go order refl
     where
       n : ℕ
       n = c .digits
 
       go : (b : Bool) → isOrder (c .relation) ≡ b
-          → (products (bodyOf b .gates) ≡ productsOf b p (c .digits)) × (squares (bodyOf b .gates) ≡ squaresOf b p (c .digits))
+          → (count isProduct (bodyOf b .gates) ≡ productsOf b p (c .digits)) × (count isSquare (bodyOf b .gates) ≡ squaresOf b p (c .digits))
       go true e =
           let counts = order-count p three odd c e some k in
           let odds : (p - 3) / 2 ≡ half p - 1 = omega arith in

@@ -9,7 +9,7 @@ use Rattle.field.specs.Bit.{bit}
 use Rattle.field.specs.Logarithm.{clog}
 use Rattle.field.specs.Primes.{Prime}
 use Rattle.digits.specs.Number.{base, allBelow}
-use Rattle.circuit.specs.Count.{products, squares}
+use Rattle.circuit.specs.Count.{isSquare, isProduct, count}
 use Rattle.circuit.specs.Depth.{depths}
 use Rattle.circuit.specs.Gate.{Gate}
 use Rattle.circuit.specs.Meaning.{entryAt}
@@ -42,7 +42,8 @@ ConditionFits =
 abbrev pub ConditionCounts : Type 0
 ConditionCounts =
     (p k : ℕ) (c : Condition) → 3 ≤ p → p % 2 ≡ 1 → 1 ≤ c .digits
-    → (products (conditionSegment p c k .gates) ≡ conditionProducts p c) × (squares (conditionSegment p c k .gates) ≡ conditionSquares p c)
+    → (count isProduct (conditionSegment p c k .gates) ≡ conditionProducts p c)
+    × (count isSquare (conditionSegment p c k .gates) ≡ conditionSquares p c)
 
 -- an order condition costs exactly the summand of demand 3
 abbrev pub OrderCost : Type 0

@@ -34,7 +34,7 @@ use Rattle.circuit.specs.Segment.{Node, Segment}
 use Rattle.circuit.specs.Table.{Head, Table, allFit, wellFormed, mostGates}
 use Rattle.circuit.specs.Value.{values}
 use Rattle.circuit.proofs.Bounds.{values-below}
-use Rattle.circuit.proofs.Count.{count-append}
+use Rattle.circuit.proofs.Count.{count-append, all-counted}
 use Rattle.circuit.proofs.Every.{every-map, every-map₂, map-same}
 use Rattle.circuit.proofs.Fitting.{fit-append}
 use Rattle.circuit.proofs.Kraft.{at-least}
@@ -144,8 +144,8 @@ module _ (bytes : List ℕ) (card : Card) (e : readCard bytes ≡ accepted card)
   formula-counts =
       let own = product-count k (draft .outputs) some (sound .order) in
       let conditions = all-counts head three odd begin (card .conditions) good in (
-        omega (arith, count-append isProduct (draft .gates) (tree .gates), own .1, conditions .0, outputs-length),
-        omega (arith, count-append isSquare (draft .gates) (tree .gates), own .2, conditions .1),
+        omega (arith, all-counted gates .0, count-append isProduct (draft .gates) (tree .gates), own .1, conditions .0, outputs-length),
+        omega (arith, all-counted gates .1, count-append isSquare (draft .gates) (tree .gates), own .2, conditions .1),
       )
 
   -- so the cost is 100(c-1) and that of each condition

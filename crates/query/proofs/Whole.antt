@@ -15,7 +15,7 @@ use Rattle.field.specs.Primes.{Prime}
 use Rattle.field.specs.Sum.{total}
 use Rattle.field.proofs.Bit.{bit-and}
 use Rattle.digits.specs.Number.{base, allBelow}
-use Rattle.circuit.specs.Count.{isProduct, isSquare, products, squares}
+use Rattle.circuit.specs.Count.{isProduct, isSquare, count}
 use Rattle.circuit.specs.Depth.{depths}
 use Rattle.circuit.specs.Every.{Every}
 use Rattle.circuit.specs.Factors.{InOrder, breadth, product}
@@ -112,8 +112,8 @@ module _ (head : Head) (three : 3 ≤ head .prime) (odd : head .prime % 2 ≡ 1)
       omega (arith, all-outputs (add p draft c) cs, length-append (draft .outputs) (written .output ∷ []))
 
   pub all-counts : (draft : Draft) (cs : List Condition) → Every (Good head) cs
-      → (products (addAll p draft cs .gates) ≡ products (draft .gates) + overConditions (conditionProducts p) cs)
-      × (squares (addAll p draft cs .gates) ≡ squares (draft .gates) + overConditions (conditionSquares p) cs)
+      → (count isProduct (addAll p draft cs .gates) ≡ count isProduct (draft .gates) + overConditions (conditionProducts p) cs)
+      × (count isSquare (addAll p draft cs .gates) ≡ count isSquare (draft .gates) + overConditions (conditionSquares p) cs)
   unfolding addAll total
   all-counts draft [] good = (omega arith, omega arith)
   all-counts draft (c ∷ cs) good =

@@ -8,7 +8,7 @@ use Rattle.field.specs.Polynomials.{orderConstants}
 use Rattle.field.specs.Primes.{primes, member, listed}
 use Rattle.field.specs.Sum.{sum, total}
 use Rattle.digits.specs.Number.{number, allBelow, digitsOf}
-use Rattle.circuit.specs.Count.{count}
+use Rattle.circuit.specs.Count.{counted, count}
 use Rattle.circuit.specs.Meaning.{interpret}
 use Rattle.circuit.specs.ProductTree.{least, multiply}
 use Rattle.circuit.specs.Reading.{readGates}
@@ -24,5 +24,5 @@ use Rattle.query.specs.Whole.{addAll}
 use Rattle.starred.specs.Starred.{Case, starred}
 
 pub starred-cases : map (λ (c : Case). c .given) starred ≡ map (λ (c : Case). c .said) starred
-unfolding starred orderConstants listed member primes number sum allBelow digitsOf readConditions total addAll conditionSegment digitsFrom ascending powerGate laterTerms chain ones halves joinLowest equalityFactors multiply least flog clog count interpret gatesBytes readGates residue
+unfolding starred orderConstants listed member primes number sum allBelow digitsOf readConditions total addAll conditionSegment digitsFrom ascending powerGate laterTerms chain ones halves joinLowest equalityFactors multiply least flog clog counted count interpret gatesBytes readGates residue
 starred-cases = refl

@@ -8,7 +8,7 @@ use native.Mathlib.Omega.{arith}
 use lib.ListN.{length, drop, length-append}
 use lib.Seq.{sets, sets-eq}
 use Rattle.answer.proofs.Lent.{sets-append}
-use Rattle.circuit.specs.Count.{count, products, squares, isProduct, isSquare}
+use Rattle.circuit.specs.Count.{count, isProduct, isSquare}
 use Rattle.circuit.specs.Gate.{Gate, gateBytes}
 use Rattle.circuit.specs.Table.{gatesBytes, tableBytes, headBytes, Table}
 use Rattle.circuit.proofs.Count.{count-append}
@@ -54,7 +54,7 @@ none = record { bytes = refl; number = omega arith; products = omega arith; squa
 
 -- one gate
 pub one : {table : List ℕ} {pen : Pen} (g : Gate) {table′ : List ℕ} {pen′ : Pen} → table′ ≡ sets table (8 * (pen .next + 1)) (gateBytes g)
-    → (pen′ .next ≡ pen .next + 1) × (pen′ .products ≡ pen .products + products (g ∷ [])) × (pen′ .squares ≡ pen .squares + squares (g ∷ []))
+    → (pen′ .next ≡ pen .next + 1) × (pen′ .products ≡ pen .products + count isProduct (g ∷ [])) × (pen′ .squares ≡ pen .squares + count isSquare (g ∷ []))
     → Wrote table pen (g ∷ []) table′ pen′
 unfolding laid gatesBytes
 one g bytes counts = record { bytes = bytes; number = counts .0; products = counts .1; squares = counts .2 }

@@ -5,7 +5,7 @@ use mathlib.Core.List.{List}
 use Prim.Native.Nat.{ℕ, _+_, _*_, _≤_}
 use lib.ListN.{length}
 use lib.Seq.{sets}
-use Rattle.circuit.specs.Count as count
+use Rattle.circuit.specs.Count.{isSquare, isProduct, count}
 use Rattle.circuit.specs.Gate.{Gate}
 use Rattle.circuit.specs.Table.{gatesBytes, mostGates}
 use Rattle.writer.specs.declared.Pen.{Pen}
@@ -14,12 +14,13 @@ use Rattle.writer.specs.declared.Pen.{Pen}
 unfoldable pub laid : List ℕ → ℕ → List Gate → List ℕ
 laid table k gates = sets table (8 * (k + 1)) (gatesBytes gates)
 
--- writing gates into a table leaves these bytes and this pen: the next free number, and the definition's counts of the gates
+-- writing gates into a table leaves these bytes and this pen: the next free number, and the counts of these records
 pub record Wrote (table : List ℕ) (pen : Pen) (gates : List Gate) (table′ : List ℕ) (pen′ : Pen) : Type 0 where
   pub bytes : table′ ≡ laid table (pen .next) gates
   pub number : pen′ .next ≡ pen .next + length gates
-  pub products : pen′ .products ≡ pen .products + count.products gates
-  pub squares : pen′ .squares ≡ pen .squares + count.squares gates
+  -- the MULs of two gates and the squares among them, wherever their values go
+  pub products : pen′ .products ≡ pen .products + count isProduct gates
+  pub squares : pen′ .squares ≡ pen .squares + count isSquare gates
 
 -- a table has room for n gates more; a pen has counted no more products or squares than gates
 abbrev pub Room : List ℕ → Pen → ℕ → Type 0

@@ -7,7 +7,7 @@ ghost use mathlib.Core.List.{[], _∷_};
 ghost use Prim.Native.Nat.{_+_, _*_, _≤_, _<_};
 ghost use lib.ListN.{length};
 ghost use lib.Seq.{sets};
-ghost use Rattle.circuit.specs.Count.{products, squares};
+ghost use Rattle.circuit.specs.Count.{count as countOf, isProduct, isSquare};
 ghost use Rattle.circuit.specs.Gate.{row, recordBytes, Left, Right, Add, Sub, Scale, Flip, Mul};
 ghost use Rattle.circuit.specs.ProductTree.{times};
 ghost use Rattle.circuit.specs.Table.{headBytes, mostGates};
@@ -160,7 +160,7 @@ pub fn put_flip(table: &mut [u8], pen: Pen, a: u16) -> Pen
 // The pen after a MUL.
 fn counted(pen: Pen, a: u16, b: u16) -> Pen
     requires { ⌜ (pen .next < mostGates) × (pen .products ≤ pen .next) × (pen .squares ≤ pen .next) ⌝ }
-    ensures { λ r. ⌜ (r .next ≡ pen .next + 1) × (r .products ≡ pen .products + products (Mul a b ∷ [])) × (r .squares ≡ pen .squares + squares (Mul a b ∷ [])) ⌝ }
+    ensures { λ r. ⌜ (r .next ≡ pen .next + 1) × (r .products ≡ pen .products + countOf isProduct (Mul a b ∷ [])) × (r .squares ≡ pen .squares + countOf isSquare (Mul a b ∷ [])) ⌝ }
 {
     if a == b {
         return Pen {
