@@ -3,7 +3,9 @@
 // Trim turns nothing away and answers a length.
 use coding::Decoded;
 use coding::Encoded;
+use forecast::forecast;
 use runner::Ran;
+use told::put_report;
 ghost use mathlib.Core.Path.{_≡_};
 ghost use lib.Dec.{eqb};
 ghost use lib.ListN.{length, take};
@@ -61,7 +63,7 @@ pub extern "C" fn staplethread_check(
     ensures cost { λ _. ⌜ now (cost .exit) ≡ costAfter (now (cost .entry)) (checking (now (table .entry))) ⌝ }
     ensures depth { λ _. ⌜ now (depth .exit) ≡ depthAfter (now (depth .entry)) (checking (now (table .entry))) ⌝ }
 {
-    told::put_report(checker::check(table), gates, products, squares, cost, depth)
+    put_report(checker::check(table), gates, products, squares, cost, depth)
 }
 
 // Trim: how many bytes from the start the part has that is handed back.
@@ -115,14 +117,7 @@ pub extern "C" fn staplethread_forecast(
     ensures cost { λ _. ⌜ now (cost .exit) ≡ costAfter (now (cost .entry)) (forecasting (now (card .entry))) ⌝ }
     ensures depth { λ _. ⌜ now (depth .exit) ≡ depthAfter (now (depth .entry)) (forecasting (now (card .entry))) ⌝ }
 {
-    told::put_report(
-        forecast::forecast(card),
-        gates,
-        products,
-        squares,
-        cost,
-        depth,
-    )
+    put_report(forecast(card), gates, products, squares, cost, depth)
 }
 
 // Build: the table of a card at the start of the lent bytes, and the report on it.
@@ -145,7 +140,7 @@ pub extern "C" fn staplethread_build(
     ensures cost { λ _. ⌜ now (cost .exit) ≡ costAfter (now (cost .entry)) (building (now (card .entry)) (now (table .entry)) .answer) ⌝ }
     ensures depth { λ _. ⌜ now (depth .exit) ≡ depthAfter (now (depth .entry)) (building (now (card .entry)) (now (table .entry)) .answer) ⌝ }
 {
-    told::put_report(
+    put_report(
         builder::build(card, table),
         gates,
         products,

@@ -1,15 +1,17 @@
 -- `coding::encode` meets its contract: at each return the tests on the way pick the line of `encoding`.
 -- Assumes nothing.
-use mathlib.Core.Path.{_≡_, sym, _∙_}
+use mathlib.Core.Path.{_≡_, sym, ap, _∙_}
 use mathlib.Core.Bool.{Bool, true, false, not}
+use mathlib.Core.List.{_++_}
 use Prim.Native.Nat.{ℕ, _^_, _≤_, _<_}
 use native.Mathlib.Omega.{arith}
 use borrow.Author.Needs.{needs}
 use borrow.Author.Tests.{not-true, not-false, ltb-true, ltb-false}
 use lib.Dec.{ltb}
+use lib.ListN.{drop}
 use Rattle.answer.proofs.Outcome.{said}
 use Rattle.field.specs.Primes.{listed}
-use Rattle.digits.specs.Number.{base}
+use Rattle.digits.specs.Number.{base, digitsOf}
 use Rattle.digits.proofs.Number.{base-pos}
 use Rattle.digits.proofs.Encoding.{prime-refused, none-refused, many-refused, room-refused, large-refused, encoded}
 use Rattle.coding.proofs.encode.Statement.{statement}
@@ -60,7 +62,8 @@ returns-5 c =
 put-digits-requires : tie.Need-put-digits-requires
 put-digits-requires c κs =
     let b = c .before .before .before in
-    (rw (b .base-of .ensures .0) (base-pos _ (prime (b .before .before .before .before))), omega (arith, b .base-of .ensures .1), omega (arith, b .before))
+    let some = base-pos _ (prime (b .before .before .before .before)) in
+    (omega (arith, some, b .base-of .ensures .0), omega (arith, b .base-of .ensures .1), omega (arith, b .before))
 
 same-length : tie.Need-same-length
 same-length c = search needs
@@ -73,7 +76,9 @@ returns-6 c =
     let line =
     said (encoded _ _ _ _ (prime (e .before .before .before)) (e .before .before .if2 .left) (e .before .if3 .left) (e .if4 .left)
     (small _ _ _ _ _ (b .base-of .ensures .0) (f .before .is-below-power .ensures) (f .if5 .left))) in
-    (line .0, rw (b .base-of .ensures .0) at (c .before .before .put-digits .ensures) ∙ line .1)
+    let a = e .before .before .before .before .before .before .args in
+    let same = ap (λ (B : ℕ). digitsOf B (a .n) (a .number) ++ drop (a .n) (a .out .now)) (b .base-of .ensures .0) in
+    (line .0, c .before .before .put-digits .ensures ∙ same ∙ line .1)
 
 pub encode-spec : {M : Type 1} → statement M
 encode-spec =
