@@ -1,8 +1,8 @@
 -- `coding::encode` meets its contract: at each return the tests on the way pick the line of `encoding`.
 -- Assumes nothing.
-use mathlib.Core.Path.{_≡_, sym, ap, _∙_}
+use mathlib.Core.Path.{_≡_, sym, _∙_}
 use mathlib.Core.Bool.{Bool, true, false, not}
-use mathlib.Core.List.{_++_}
+use mathlib.Core.List.{List, _++_}
 use Prim.Native.Nat.{ℕ, _^_, _≤_, _<_}
 use native.Mathlib.Omega.{arith}
 use borrow.Author.Needs.{needs}
@@ -68,6 +68,10 @@ put-digits-requires c κs =
 same-length : tie.Need-same-length
 same-length c = search needs
 
+-- digits to the code's base are digits to B
+digits-put : (p b n x : ℕ) (out after : List ℕ) → b ≡ base p → after ≡ digitsOf b n x ++ drop n out → after ≡ digitsOf (base p) n x ++ drop n out
+digits-put p b n x out after same e = rw same at e
+
 returns-6 : tie.Need-returns-6
 returns-6 c =
     let f = c .before .before .before .before in
@@ -76,9 +80,7 @@ returns-6 c =
     let line =
     said (encoded _ _ _ _ (prime (e .before .before .before)) (e .before .before .if2 .left) (e .before .if3 .left) (e .if4 .left)
     (small _ _ _ _ _ (b .base-of .ensures .0) (f .before .is-below-power .ensures) (f .if5 .left))) in
-    let a = e .before .before .before .before .before .before .args in
-    let same = ap (λ (B : ℕ). digitsOf B (a .n) (a .number) ++ drop (a .n) (a .out .now)) (b .base-of .ensures .0) in
-    (line .0, c .before .before .put-digits .ensures ∙ same ∙ line .1)
+    (line .0, digits-put _ _ _ _ _ _ (b .base-of .ensures .0) (c .before .before .put-digits .ensures) ∙ line .1)
 
 pub encode-spec : {M : Type 1} → statement M
 encode-spec =
