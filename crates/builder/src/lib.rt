@@ -6,6 +6,7 @@ use answer::Reported;
 use card::CardHead;
 use card::CardRead;
 use card::ConditionRead;
+use condition::put_condition;
 use writer::Pen;
 use writer::Slots;
 use writer::Written;
@@ -56,15 +57,7 @@ fn put_conditions(
                     left: slot,
                     right: slot,
                 };
-                let written = condition::put_condition(
-                    table,
-                    pen,
-                    p,
-                    relation,
-                    slots,
-                    constants,
-                    powers,
-                );
+                let written = put_condition(table, pen, p, relation, slots, constants, powers);
                 gates[k] = written.node.gate;
                 depths[k] = written.node.depth;
                 pen = written.pen;
