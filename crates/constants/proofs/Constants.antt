@@ -3,21 +3,21 @@
 -- are b^(p-2m), and each turn writes one and raises the powers by b^2.
 -- Assumes nothing.
 use mathlib.Core.Path.{_≡_, refl, sym, ap, ap₂, _∙_}
-use mathlib.Core.List.{List, [], _∷_, _++_, map, map-append, append-assoc, append-nil}
+use mathlib.Core.List.{List, [], _∷_, _++_, map-append, append-assoc, append-nil}
 use Prim.Native.Nat.{ℕ, zero, suc, _+_, _-_, _*_, _/_, _%_, _^_, _≤_, _<_}
 use native.Mathlib.Omega.{arith}
 use native.Mathlib.Numerals.{add-one, sub-one}
 use native.Mathlib.Nat.{mod-mod, pow-zero, pow-succ'}
 use native.Mathlib.Decide.{ℕ-discrete}
 use lib.Pow.{pow-add}
-use lib.ListN.{length, take, drop, set, getD, length-append, length-take, length-drop, length-set, drop-of-length-le, List·getD-append, length-map}
+use lib.ListN.{length, take, drop, set, getD, length-append, length-take, length-drop, length-set, drop-of-length-le, List·getD-append, List·getD-map, length-map}
 use lib.Seq.{length-take-le, take-at, drop-cons, drop-set-lt, set-at, getD-at, getD-set-same}
 use Rattle.field.specs.Sum.{sum, total}
 use Rattle.field.specs.Modular.{residue, mulMod}
 use Rattle.field.specs.Polynomials.{everySecond, orderExponents, orderConstant, orderConstants}
 use Rattle.constants.specs.Constants.{firstValues, oneTo, productsMod, powersMod, oddConstants}
 use Rattle.field.proofs.Modular.{mod-same, strip, residue-is, residue-small}
-use Rattle.field.proofs.OrderConstants.{length-second, constant-odd, constant-last}
+use Rattle.field.proofs.OrderConstants.{length-second, second-at, constant-odd, constant-last}
 use Rattle.field.proofs.Sum.{sum-cong, total-append}
 
 -- ---- first values
@@ -149,12 +149,6 @@ powers-sum p e n some =
 
 -- ---- the constants
 
-second-at : (f : ℕ → ℕ) (n i k : ℕ) → k < n → getD (map f (everySecond n i)) k 0 ≡ f (i + 2 * k)
-unfolding everySecond
-second-at f zero i k l = absurd (omega arith)
-second-at f (suc n) i zero l = ap f (omega arith)
-second-at f (suc n) i (suc k) l = second-at f n (suc (suc i)) k (omega arith) ∙ ap f (omega arith)
-
 length-odd : (p : ℕ) → length (oddConstants p) ≡ p / 2
 unfolding oddConstants
 length-odd p = length-map (everySecond (p / 2) 1) (orderConstant p) ∙ length-second (p / 2) 1
@@ -162,8 +156,9 @@ length-odd p = length-map (everySecond (p / 2) 1) (orderConstant p) ∙ length-s
 odd-from : (p k : ℕ) → k < p / 2 → drop k (oddConstants p) ≡ orderConstant p (1 + 2 * k) ∷ drop (suc k) (oddConstants p)
 unfolding oddConstants
 odd-from p k l =
-    drop-cons (oddConstants p) k 0 (omega (arith, length-odd p))
-    ∙ ap (λ (x : ℕ). x ∷ drop (suc k) (oddConstants p)) (second-at (orderConstant p) (p / 2) 1 k l)
+    let c = orderConstant p in
+    drop-cons (oddConstants p) k (c 0) (omega (arith, length-odd p))
+    ∙ ap (λ (x : ℕ). x ∷ drop (suc k) (oddConstants p)) (List·getD-map c (everySecond (p / 2) 1) k 0 ∙ ap c (second-at (p / 2) 1 k l))
 
 module _ (p : ℕ) (odd : p % 2 ≡ 1) where
   -- the sum of the powers that stand there where k constants are left after this one

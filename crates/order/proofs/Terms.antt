@@ -6,12 +6,12 @@ use Prim.Native.Nat.{ℕ, zero, suc, _+_, _-_, _*_, _/_, _%_, _≤_, _<_, max}
 use native.Mathlib.Omega.{arith}
 use native.Mathlib.Decide.{decLe}
 use native.Mathlib.Nat.{lt-of-not-le, max-eq-right}
-use lib.ListN.{length, length-map, length-append, getD}
+use lib.ListN.{length, length-map, length-append, getD, List·getD-append}
 use lib.Seq.{getD-at}
 use Rattle.field.specs.Logarithm.{clog}
 use Rattle.field.specs.Polynomials.{everySecond, orderExponents, orderConstant, orderConstants}
 use Rattle.field.proofs.Logarithm.{clog-mono}
-use Rattle.field.proofs.OrderConstants.{length-second}
+use Rattle.field.proofs.OrderConstants.{length-second, second-at}
 use Rattle.circuit.specs.Gate.{Scale, Add}
 use Rattle.comparison.specs.OrderDigit.{half, powerGate, laterTerms, terms}
 use Rattle.comparison.proofs.OrderDigit.{exponents-length}
@@ -30,10 +30,8 @@ mapped-at f (i ∷ is) later zero l = refl
 mapped-at f (i ∷ is) later (suc m) l = mapped-at f is later m (omega arith)
 
 second-then : (n i m : ℕ) (later : List ℕ) → m < n → getD (everySecond n i ++ later) m 0 ≡ i + 2 * m
-unfolding everySecond
-second-then zero i m later l = absurd (omega arith)
-second-then (suc n) i zero later l = omega arith
-second-then (suc n) i (suc m) later l = second-then n (suc (suc i)) m later (omega arith) ∙ omega arith
+second-then n i m later l =
+    List·getD-append (everySecond n i) later 0 m (omega (arith, length-second n i)) ∙ second-at n i m l
 
 -- there is one for each exponent
 pub constants-long : (p : ℕ) (list : List ℕ) → Constants p list → half p < length list

@@ -18,7 +18,7 @@ laid table k gates = sets table (8 * (k + 1)) (gatesBytes gates)
 pub record Wrote (table : List ℕ) (pen : Pen) (gates : List Gate) (table′ : List ℕ) (pen′ : Pen) : Type 0 where
   pub bytes : table′ ≡ laid table (pen .next) gates
   pub number : pen′ .next ≡ pen .next + length gates
-  -- the MULs of two gates and the squares among them, wherever their values go
+  -- the MULs of two different gates and the squares among them, wherever their values go
   pub products : pen′ .products ≡ pen .products + count isProduct gates
   pub squares : pen′ .squares ≡ pen .squares + count isSquare gates
 
