@@ -15,7 +15,7 @@ use Rattle.answer.specs.Outcome.{refused, accepted}
 use Rattle.answer.specs.Report.{Report}
 use Rattle.answer.proofs.Outcome.{answered, was-refused, accepted-same}
 use Rattle.field.specs.Logarithm.{clog}
-use Rattle.field.proofs.Logarithm.{clog-iff}
+use Rattle.field.proofs.Logarithm.{clog-is-ceiling}
 use Rattle.circuit.specs.Depth.{depth}
 use Rattle.circuit.specs.Every.{Every}
 use Rattle.circuit.specs.Gate.{Gate, Left}
@@ -36,7 +36,7 @@ use Rattle.query.specs.Reading.{readCard, readConditions}
 use Rattle.query.specs.Whole.{begin, filled, tableOf}
 use Rattle.query.proofs.Building.{built}
 use Rattle.query.proofs.CardFacts.{InCard, Accepted, accepted-card}
-use Rattle.query.proofs.Promises.{exact-size, output-tells}
+use Rattle.query.proofs.Promises.{exact-size, card-output}
 use Rattle.query.proofs.Reading.{reads}
 use Rattle.card.specs.Parts.{Summary, summary, readSummary}
 use Rattle.writer.specs.declared.Pen.{Pen}
@@ -114,8 +114,8 @@ module _ (bytes : List ℕ) (card : Card) (e : readCard bytes ≡ accepted card)
   few-levels k (d ∷ ds) h =
       let earlier = replicate k (Left 0) in
       let own = condition-depth p earlier d (known .prime .low) (known .prime .odd) (h .0 .0) .1 in
-      let top : clog (p - 1) ≤ 8 = clog-iff (p - 1) 8 .0 (omega (arith, known .prime .high)) in
-      let wide : clog (d .digits) ≤ 8 = clog-iff (d .digits) 8 .0 (omega (arith, h .0 .1)) in (
+      let top : clog (p - 1) ≤ 8 = clog-is-ceiling (p - 1) 8 .0 (omega (arith, known .prime .high)) in
+      let wide : clog (d .digits) ≤ 8 = clog-is-ceiling (d .digits) 8 .0 (omega (arith, h .0 .1)) in (
         omega (arith, ap (λ (n : ℕ). conditionSegment p d n .output .depth) (length-replicate k (Left 0)), own, top, wide),
         few-levels _ ds (h .1),
       )
@@ -138,7 +138,7 @@ module _ (bytes : List ℕ) (card : Card) (e : readCard bytes ≡ accepted card)
     wrote = same-gates (all (pen .next) next-is) (then conditions tree)
 
     deep-is : deep ≡ depth (tableOf card .gates)
-    deep-is = output ∙ tells ∙ output-tells bytes card e
+    deep-is = output ∙ tells ∙ card-output bytes card e .1
       where
         tells : productTree (pen .next) outs .output .depth ≡ productTree (length (filled card .gates)) (filled card .outputs) .output .depth
         tells = rw (gates-are, outputs-are, next-is)

@@ -17,12 +17,12 @@ use Rattle.digits.proofs.Number.{below-at, below-append}
 use Rattle.circuit.specs.Count.{isMul, isSquare, isProduct, count, cost}
 use Rattle.circuit.specs.Depth.{depths}
 use Rattle.circuit.specs.Gate.{Gate, Left, Right, Add, Sub, Scale, Flip, Mul, fields}
-use Rattle.circuit.specs.Meaning.{meaning, entryOf, interpret, entryAt}
+use Rattle.circuit.specs.Meaning.{meaning, entryOf, interpret, entryAt, Solves}
 use Rattle.circuit.specs.Promises.{ValuesBelow, DepthsBelow}
 use Rattle.circuit.specs.Value.{values}
 use Rattle.circuit.proofs.Count.{all-counted}
 use Rattle.circuit.proofs.Fitting.{Named, AllNamed, all-named}
-use Rattle.circuit.proofs.Meaning.{Solves, solved}
+use Rattle.circuit.proofs.Meaning.{solved}
 
 -- ---- values
 

@@ -8,7 +8,7 @@ use native.Mathlib.Omega.{arith}
 use borrow.Author.Tests.{ltb-true, lt-ltb}
 use lib.Dec.{ltb}
 use lib.ListN.{length}
-use Rattle.field.proofs.Primes.{listed-iff}
+use Rattle.field.proofs.Primes.{listed-is-odd-prime}
 use Rattle.field.proofs.Tests.{both, in-range}
 use Rattle.digits.specs.Number.{mostDigits, allBelow}
 use Rattle.digits.proofs.Number.{below-append}
@@ -66,11 +66,11 @@ head-below head count p w n l =
     let g = u16-below count l in
     rw (lt-ltb (head .prime) 256 p, lt-ltb (head .weight) 256 w, lt-ltb (head .slots) 256 n, g .0, g .1)
 
-pub table-below : TableBytes
-table-below table t =
+pub table-bytes : TableBytes
+table-bytes table t =
     let w = well-formed table t in
     let head = table .head in
-    let prime : head .prime ≤ 251 = listed-iff (head .prime) .0 (w .prime) .high in
+    let prime : head .prime ≤ 251 = listed-is-odd-prime (head .prime) .0 (w .prime) .high in
     let weight = in-range (head .weight) 50 100 (w .weight) in
     let slots = in-range (head .slots) 1 mostDigits (w .slots) in
     let count = in-range (length (table .gates)) 1 mostGates (w .count) in

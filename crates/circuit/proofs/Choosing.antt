@@ -1,7 +1,7 @@
 -- What the product tree chooses: the factor that precedes all others; what is left is the others, in their order.
 -- One induction over the list shows all that `least` keeps; the laws of the tree cite only `one-is`, `pair-is` and `next-length`.
 -- Assumes nothing.
-use mathlib.Core.Path.{_≡_, refl, _∙_}
+use mathlib.Core.Path.{_≡_, refl, sym, subst, _∙_}
 use mathlib.Core.Logic.{inl, inr, _≢_}
 use mathlib.Core.Bool.{true, false}
 use mathlib.Core.List.{List, [], _∷_, _++_, List·Permᴰ, List·Permᴰ·cons, List·Permᴰ·swap, List·Permᴰ·trans, Permᴰ·refl}
@@ -14,7 +14,6 @@ use lib.ListN.{length}
 use Rattle.circuit.specs.Every.{Every}
 use Rattle.circuit.specs.Factors.{InOrder, Precedes}
 use Rattle.circuit.specs.ProductTree.{Choice, goesFirst, least, choose, times}
-use Rattle.circuit.specs.TreePromises.{LeastFirst}
 use Rattle.circuit.specs.Segment.{Node}
 use Rattle.circuit.proofs.Every.{every-map, every-map₂}
 use Rattle.circuit.proofs.Rearranged.{same-length, same-every, last-first}
@@ -61,6 +60,9 @@ first-precedes x f deep low = go (decLe (f .depth) (x .depth))
 -- a precedes f and is another gate
 abbrev Before : Node → Node → Type 0
 Before a f = Precedes a f × (a .gate ≢ f .gate)
+
+all-precede : (a : Node) (factors : List Node) → Every (Before a) factors → Every (Precedes a) factors
+all-precede a = every-map (λ (f : Node) (before : Before a f). before .0)
 
 -- what a choice among factors keeps
 record Chosen (factors : List Node) (choice : Choice) : Type 0 where
@@ -116,11 +118,6 @@ least-is x (y ∷ ys) = go (decLe (x .depth) (least y ys .chosen .depth)) (least
     go (no deep) facts =
         let deeper = lt-of-not-le deep in rw (waits x (least y ys .chosen) deeper) (there x y ys (least y ys) deeper facts)
 
-pub least-first : LeastFirst
-least-first i k x xs h =
-    let facts = least-is x xs in
-    (every-map (λ (f : Node) before. before .0) (least x xs .others) (facts .first i k h), facts .same)
-
 choose-is : (factors : List Node) → 1 ≤ length factors → Chosen factors (choose factors)
 choose-is [] h = absurd (omega arith)
 choose-is (x ∷ xs) h = least-is x xs
@@ -141,11 +138,14 @@ abbrev pub next : ℕ → List Node → List Node
 next k factors = restOf factors ++ (times k (firstOf factors) (secondOf factors) ∷ [])
 
 -- a single factor is the one chosen
-pub one-is : (factors : List Node) → length factors ≡ 1 → List·Permᴰ (firstOf factors ∷ []) factors
+pub one-left : (factors : List Node) → length factors ≡ 1 → factors ≡ firstOf factors ∷ []
 unfolding least
-one-is [] e = absurd (omega arith)
-one-is (f ∷ []) e = Permᴰ·refl _
-one-is (f ∷ g ∷ fs) e = absurd (omega arith)
+one-left [] e = absurd (omega arith)
+one-left (f ∷ []) e = refl
+one-left (f ∷ g ∷ fs) e = absurd (omega arith)
+
+pub one-is : (factors : List Node) → length factors ≡ 1 → List·Permᴰ (firstOf factors ∷ []) factors
+one-is factors e = subst (List·Permᴰ (firstOf factors ∷ [])) (sym (one-left factors e)) (Permᴰ·refl _)
 
 -- the two that are multiplied, and the rest
 pub record Paired (factors : List Node) : Type 0 where
@@ -153,7 +153,10 @@ pub record Paired (factors : List Node) : Type 0 where
   -- the second is no less deep than the first, and the rest no less than the second
   pub rising : firstOf factors .depth ≤ secondOf factors .depth
   pub low : Every (λ (f : Node). secondOf factors .depth ≤ f .depth) (restOf factors)
-  -- of factors in order: both are lower gates than the product, they are two gates, and order is kept
+  -- of factors in order: the first precedes all others and the second the rest, both are lower gates than the product,
+  -- they are two gates, and order is kept
+  pub first : (k : ℕ) → InOrder 0 k factors → Every (Precedes (firstOf factors)) (secondOf factors ∷ restOf factors)
+  pub second : (k : ℕ) → InOrder 0 k factors → Every (Precedes (secondOf factors)) (restOf factors)
   pub named : (k : ℕ) → InOrder 0 k factors → (firstOf factors .gate < k) × (secondOf factors .gate < k)
   pub apart : (k : ℕ) → InOrder 0 k factors → firstOf factors .gate ≢ secondOf factors .gate
   pub order : (k : ℕ) → InOrder 0 k factors → InOrder 0 (suc k) (next k factors)
@@ -168,6 +171,8 @@ pair-is n factors e =
       same = parts;
       rising = same-every _ parts (a .low) .1 .0;
       low = same-every _ (b .same) (b .low) .1;
+      first = λ k h. all-precede (firstOf factors) (secondOf factors ∷ restOf factors) (same-every _ (b .same) (a .first 0 k h));
+      second = λ k h. all-precede (secondOf factors) (restOf factors) (b .first 0 k (a .order 0 k h));
       named = λ k h. let bounds = same-every _ parts (order-every 0 k factors h) in (bounds .0 .1, bounds .1 .0 .1);
       apart = λ k h. same-every _ (b .same) (a .first 0 k h) .0 .1;
       order = λ k h.

@@ -8,7 +8,7 @@ use native.Mathlib.Nat.{le-max-left, le-max-right}
 use lib.Pow.{pow-mono}
 use Rattle.field.specs.Logarithm.{clog}
 use Rattle.field.specs.Sum.{total}
-use Rattle.field.proofs.Logarithm.{clog-iff}
+use Rattle.field.proofs.Logarithm.{clog-is-ceiling}
 use Rattle.field.proofs.Sum.{total-append}
 use Rattle.circuit.specs.TreePromises.{NoShallower}
 use Rattle.circuit.specs.Segment.{Node}
@@ -30,7 +30,7 @@ module _ {X : Type 0} (depth : X → ℕ) where
   kraft (join t u) = rw (map-append, total-append) (sum-below _ _ (kraft t) (kraft u))
 
   pub at-least : (xs : List X) (tree : Tree X) → List·Permᴰ (leaves tree) xs → clog (sumOver xs) ≤ height depth tree
-  at-least xs tree same = rw (← same-total (Permᴰ·map (λ (x : X). 2 ^ depth x) same)) (clog-iff _ _ .0 (kraft tree))
+  at-least xs tree same = rw (← same-total (Permᴰ·map (λ (x : X). 2 ^ depth x) same)) (clog-is-ceiling _ _ .0 (kraft tree))
 
 pub no-shallower : NoShallower
 no-shallower factors tree same = at-least (λ (f : Node). f .depth) factors tree same

@@ -10,7 +10,7 @@ use native.Mathlib.Nat.{add-zero, add-suc, suc-add}
 use lib.ListN.{length, length-append, List·getD-append}
 use lib.Seq.{getD-at}
 use Rattle.circuit.specs.Gate.{Gate, Left, Right, Add, Sub, Scale, Flip, Mul}
-use Rattle.circuit.specs.Meaning.{Algebra, meaning, entryOf, interpret, entries, entryAt}
+use Rattle.circuit.specs.Meaning.{Algebra, meaning, entryOf, interpret, entries, entryAt, Solves}
 use Rattle.circuit.proofs.Fitting.{Named, AllNamed}
 
 module _ {A : Type 0} (alg : Algebra A) where
@@ -41,12 +41,7 @@ module _ {A : Type 0} (alg : Algebra A) where
 
   -- ---- each entry is the meaning of its gate
 
-  -- the gates, of which the first has number k
-  abbrev pub Solves : (ℕ → A) → ℕ → List Gate → Type 0
-  Solves E k [] = Unit {0}
-  Solves E k (g ∷ gs) = (E k ≡ meaning alg E g) × Solves E (suc k) gs
-
-  pub solves-append : (E : ℕ → A) (gs hs : List Gate) (k : ℕ) → Solves E k (gs ++ hs) → Solves E k gs × Solves E (k + length gs) hs
+  pub solves-append : (E : ℕ → A) (gs hs : List Gate) (k : ℕ) → Solves alg E k (gs ++ hs) → Solves alg E k gs × Solves alg E (k + length gs) hs
   solves-append E [] hs k h = (tt, rw add-zero h)
   solves-append E (g ∷ gs) hs k h =
       let s = solves-append E gs hs (suc k) (h .1) in ((h .0, s .0), rw (add-suc, ← suc-add) (s .1))
@@ -62,7 +57,7 @@ module _ {A : Type 0} (alg : Algebra A) where
   meaning-same E F k h (Mul a b) n = ap₂ (alg .mul) (h a (n .0)) (h b (n .1))
 
   pub solved : (gs : List Gate) (earlier : List A) (k : ℕ) → length earlier ≡ k → AllNamed k gs
-      → Solves (entryOf alg (interpret alg earlier gs)) k gs
+      → Solves alg (entryOf alg (interpret alg earlier gs)) k gs
   unfolding interpret
   solved [] earlier k e n = tt
   solved (g ∷ gs) earlier k e n =
@@ -82,7 +77,7 @@ module _ {A : Type 0} (alg : Algebra A) where
       rw (interpret-append [] gates later) (kept (entries alg gates) later i (omega (arith, interpret-length [] gates)))
 
   -- and solve the later ones
-  pub later-solved : (gates later : List Gate) → AllNamed (length gates) later → Solves (entryAt alg (gates ++ later)) (length gates) later
+  pub later-solved : (gates later : List Gate) → AllNamed (length gates) later → Solves alg (entryAt alg (gates ++ later)) (length gates) later
   later-solved gates later n =
-      subst (λ (all : List A). Solves (entryOf alg all) (length gates) later) (sym (interpret-append [] gates later))
+      subst (λ (all : List A). Solves alg (entryOf alg all) (length gates) later) (sym (interpret-append [] gates later))
       (solved later (entries alg gates) (length gates) (omega (arith, interpret-length [] gates)) n)

@@ -14,37 +14,52 @@ use Rattle.circuit.specs.Count.{count, isProduct, isSquare}
 use Rattle.circuit.specs.Depth.{depths}
 use Rattle.circuit.specs.Every.{Every}
 use Rattle.circuit.specs.Gate.{Gate}
-use Rattle.circuit.specs.Meaning.{Algebra, entryAt}
-use Rattle.circuit.specs.Factors.{InOrder, product}
+use Rattle.circuit.specs.Meaning.{Algebra, entryAt, Solves}
+use Rattle.circuit.specs.Factors.{InOrder, listProduct}
 use Rattle.circuit.specs.ProductTree.{least, multiply, productTree}
-use Rattle.circuit.specs.TreePromises.{ProductValue, ProductDepth, ProductCount, ProductFits}
+use Rattle.circuit.specs.TreePromises.{TwoLeast, LeastFirst, ProductValue, ProductDepth, ProductCount, ProductFits}
 use Rattle.circuit.specs.Segment.{Node}
 use Rattle.circuit.specs.Table.{Head, allFit}
 use Rattle.circuit.specs.Value.{values}
-use Rattle.circuit.proofs.Choosing.{firstOf, secondOf, restOf, next, order-every, one-is, pair-is, next-same, next-length}
+use Rattle.circuit.proofs.Choosing.{firstOf, secondOf, restOf, next, order-every, one-left, one-is, pair-is, next-same, next-length}
 use Rattle.circuit.proofs.Every.{every-map, every-map₂, map-same}
 use Rattle.circuit.proofs.Fitting.{AllNamed}
-use Rattle.circuit.proofs.Meaning.{earlier-kept, Solves, later-solved}
+use Rattle.circuit.proofs.Meaning.{earlier-kept, later-solved}
 use Rattle.circuit.proofs.Rearranged.{same-every, same-product}
 use Rattle.circuit.proofs.TreeDepth.{tree-depth}
 
 -- ---- what the gates name
 
-pub multiply-named : (n k : ℕ) (factors : List Node) → length factors ≡ suc n → InOrder 0 k factors
-    → AllNamed k (multiply n k factors .gates) × (multiply n k factors .output .gate < k + n)
+multiply-named : (n k : ℕ) (factors : List Node) → length factors ≡ suc n → InOrder 0 k factors
+    → AllNamed k (multiply n k factors .gates)
 unfolding multiply
-multiply-named zero k factors e h = (tt, omega (arith, same-every _ (one-is factors e) (order-every 0 k factors h) .0 .1))
+multiply-named zero k factors e h = tt
 multiply-named (suc n) k factors e h =
     let pair = pair-is n factors e in
-    let later = multiply-named n (suc k) (next k factors) (next-length n k factors e) (pair .order k h) in
-    ((pair .named k h, later .0), omega (arith, later .1))
+    (pair .named k h, multiply-named n (suc k) (next k factors) (next-length n k factors e) (pair .order k h))
 
-pub tree-named : (k : ℕ) (factors : List Node) → 1 ≤ length factors → InOrder 0 k factors → AllNamed k (productTree k factors .gates)
-tree-named k factors some h = multiply-named (length factors - 1) k factors (omega arith) h .0
+tree-named : (k : ℕ) (factors : List Node) → 1 ≤ length factors → InOrder 0 k factors → AllNamed k (productTree k factors .gates)
+tree-named k factors some h = multiply-named (length factors - 1) k factors (omega arith) h
 
-pub tree-output : (k : ℕ) (factors : List Node) → 1 ≤ length factors → InOrder 0 k factors
-    → productTree k factors .output .gate < k + (length factors - 1)
-tree-output k factors some h = multiply-named (length factors - 1) k factors (omega arith) h .1
+-- the two least of the factors left, one step after the other
+multiply-least : (n k : ℕ) (factors : List Node) → length factors ≡ suc n → InOrder 0 k factors
+    → TwoLeast k factors (multiply n k factors .gates) (multiply n k factors .output)
+unfolding multiply
+multiply-least zero k factors e h = one-left factors e
+multiply-least (suc n) k factors e h =
+    let pair = pair-is n factors e in (
+      firstOf factors,
+      secondOf factors,
+      restOf factors,
+      refl,
+      pair .same,
+      pair .first k h,
+      pair .second k h,
+      multiply-least n (suc k) (next k factors) (next-length n k factors e) (pair .order k h),
+    )
+
+pub least-first : LeastFirst
+least-first k factors some h = multiply-least (length factors - 1) k factors (omega arith) h
 
 -- of a single factor at the end of a list, that one is chosen
 pub left-over : (factors : List Node) (f : Node) → length (factors ++ (f ∷ [])) ≡ 1 → firstOf (factors ++ (f ∷ [])) ≡ f
@@ -109,15 +124,15 @@ product-count k factors some h =
 -- the value is the product of the factors' values
 pub multiply-value : (p : ℕ) (left right : List ℕ) (E : ℕ → ℕ) (n k : ℕ) (factors : List Node) → 0 < p → length factors ≡ suc n
     → Solves (values p left right) E k (multiply n k factors .gates)
-    → E (multiply n k factors .output .gate) % p ≡ product (map (λ (f : Node). E (f .gate)) factors) % p
-unfolding multiply product
+    → E (multiply n k factors .output .gate) % p ≡ listProduct (map (λ (f : Node). E (f .gate)) factors) % p
+unfolding multiply listProduct
 multiply-value p left right E zero k factors some e h =
     mod-same p (sym (mul-one _) ∙ same-product (Permᴰ·map (λ (f : Node). E (f .gate)) (one-is factors e)))
 multiply-value p left right E (suc n) k factors some e h =
     let value : Node → ℕ = λ f. E (f .gate) in
     let a = value (firstOf factors) in
     let b = value (secondOf factors) in
-    let rest = product (map value (restOf factors)) in
+    let rest = listProduct (map value (restOf factors)) in
     multiply-value p left right E n (suc k) (next k factors) some (next-length n k factors e) (h .1)
     ∙ mod-same p (same-product (Permᴰ·map value (next-same k factors)))
     ∙ mod-same p (ap (λ (x : ℕ). x * rest) (h .0 ∙ mulMod-is p a b some))
@@ -161,7 +176,7 @@ product-value p left right gates factors positive some h =
     let tree = productTree k factors .gates in
     multiply-value p left right (entryAt alg (gates ++ tree)) (length factors - 1) k factors positive (omega arith)
     (later-solved alg gates tree (tree-named k factors some h))
-    ∙ mod-same p (ap product (map-same _ _ factors (factors-kept alg gates tree factors h)))
+    ∙ mod-same p (ap listProduct (map-same _ _ factors (factors-kept alg gates tree factors h)))
 
 pub product-depth : ProductDepth
 product-depth gates factors some h known =

@@ -1,21 +1,25 @@
 -- The promises of tables: what Check, Trim and Run answer for a table's bytes, that Check accepts nothing else, and the bounds of what it answers.
 -- All follow from what reading gives, in `proofs/Reading.antt`.
 -- Assumes nothing.
-use mathlib.Core.Path.{sym, _∙_}
-use Prim.Native.Nat.{_+_, _-_, _*_}
+use mathlib.Core.Path.{_≡_, refl, sym, ap, _∙_}
+use mathlib.Core.List.{List, []}
+use Prim.Native.Nat.{ℕ, _+_, _-_, _*_}
 use native.Mathlib.Omega.{arith}
 use borrow.Author.Tests.{eq-eqb, le-ltb}
-use lib.ListN.{length, drop}
-use lib.Seq.{take-at}
+use lib.ListN.{length, take, drop, take-append-drop}
+use lib.Seq.{take-at, take-append-seam}
+use Rattle.answer.specs.Outcome.{Answer, refused, accepted, onAnswer}
+use Rattle.answer.specs.Report.{Report}
 use Rattle.answer.proofs.Outcome.{answered, accepted-same}
 use Rattle.field.proofs.Tests.{in-range}
-use Rattle.circuit.specs.Promises.{ReadsBack, OnlyTables, ChecksTables, ChecksOnlyTables, TrimsTables, TrimsNothing, RunsTables, RunAccepts, Bounded, ReportBounds}
+use Rattle.circuit.specs.Outcomes.{checking}
+use Rattle.circuit.specs.Promises.{ReadsBack, OnlyTables, ChecksTables, ChecksOnlyTables, TrimsTables, TrimsStart, TrimsNothing, RunsTables, RunAccepts, Bounded, ReportBounds}
 use Rattle.circuit.specs.Reading.{reading}
 use Rattle.circuit.specs.Report.{report}
 use Rattle.circuit.specs.Table.{Table, tableBytes, mostGates}
 use Rattle.circuit.proofs.Count.{all-counted}
 use Rattle.circuit.proofs.Bounds.{depths-below, counts-below, cost-below}
-use Rattle.circuit.proofs.Reading.{length-table, read-table, reads, table-bytes}
+use Rattle.circuit.proofs.Reading.{length-table, read-table, reads, bytes-read}
 use Rattle.circuit.proofs.WellFormed.{WellFormed, well-formed, is-well-formed}
 
 pub reads-back : ReadsBack
@@ -23,7 +27,7 @@ reads-back table later t = read-table table later (well-formed table t)
 
 pub only-tables : OnlyTables
 only-tables bytes table h e =
-    let r = reads bytes table e in (is-well-formed table (r .formed), table-bytes bytes table h r)
+    let r = reads bytes table e in (is-well-formed table (r .formed), bytes-read bytes table h r)
 
 pub checks-tables : ChecksTables
 checks-tables table later t = rw (reads-back table later t)
@@ -37,6 +41,19 @@ checks-only-tables bytes told h e =
 pub trims-tables : TrimsTables
 trims-tables table later t =
     rw (checks-tables table later t) (take-at (tableBytes table) later (8 * (length (table .gates) + 1)) (length-table table))
+
+-- the start that is as long as a start is that start
+same-start : (n : ℕ) (bytes : List ℕ) → take (length (take n bytes)) bytes ≡ take n bytes
+same-start n bytes =
+    ap (take (length (take n bytes))) (sym (take-append-drop n bytes)) ∙ take-append-seam (take n bytes) (drop n bytes)
+
+pub trims-start : TrimsStart
+trims-start bytes = go (checking bytes)
+  where
+    go : (checked : Answer Report)
+        → let part : List ℕ = onAnswer checked (λ number. []) (λ told. take (8 * (told .gates + 1)) bytes) in take (length part) bytes ≡ part
+    go (refused number) = refl
+    go (accepted told) = same-start (8 * (told .gates + 1)) bytes
 
 pub trims-nothing : TrimsNothing
 trims-nothing bytes number e = rw e

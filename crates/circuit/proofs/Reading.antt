@@ -249,9 +249,9 @@ reads bytes table e =
       };
     })
 
-pub table-bytes : (bytes : List ℕ) (table : Table) → allBelow 256 bytes ≡ true → Reads bytes table
+pub bytes-read : (bytes : List ℕ) (table : Table) → allBelow 256 bytes ≡ true → Reads bytes table
     → bytes ≡ tableBytes table ++ drop (8 * (length (table .gates) + 1)) bytes
-table-bytes bytes table h r =
+bytes-read bytes table h r =
     let count = u16-bytes bytes 6 (length (table .gates)) h (r .count) in
     let size : 8 * (length (table .gates) + 1) ≡ 8 + 8 * countOf bytes = omega (arith, r .count) in
     let room : 8 * countOf bytes ≤ length (drop 8 bytes) = rw length-drop (omega (arith, r .kept .room)) in

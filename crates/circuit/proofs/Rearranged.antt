@@ -8,7 +8,7 @@ use native.Mathlib.Nat.{add-left-comm, mul-left-comm}
 use lib.ListN.{length}
 use Rattle.field.specs.Sum.{total}
 use Rattle.circuit.specs.Every.{Every}
-use Rattle.circuit.specs.Factors.{breadth, product}
+use Rattle.circuit.specs.Factors.{breadth, listProduct}
 use Rattle.circuit.specs.Segment.{Node}
 
 module _ {X : Type 0} where
@@ -39,9 +39,9 @@ same-total (List·Permᴰ·trans first second) = same-total first ∙ same-total
 pub same-breadth : {xs ys : List Node} → List·Permᴰ xs ys → breadth xs ≡ breadth ys
 same-breadth same = same-total (Permᴰ·map (λ (f : Node). 2 ^ f .depth) same)
 
-pub same-product : {xs ys : List ℕ} → List·Permᴰ xs ys → product xs ≡ product ys
-unfolding product
+pub same-product : {xs ys : List ℕ} → List·Permᴰ xs ys → listProduct xs ≡ listProduct ys
+unfolding listProduct
 same-product List·Permᴰ·nil = refl
 same-product (List·Permᴰ·cons e rest) = ap₂ _*_ e (same-product rest)
-same-product (List·Permᴰ·swap {a} {b} {l = l} e f) = mul-left-comm a b (product l) ∙ ap₂ (λ (u v : ℕ). u * (v * product l)) f e
+same-product (List·Permᴰ·swap {a} {b} {l = l} e f) = mul-left-comm a b (listProduct l) ∙ ap₂ (λ (u v : ℕ). u * (v * listProduct l)) f e
 same-product (List·Permᴰ·trans first second) = same-product first ∙ same-product second

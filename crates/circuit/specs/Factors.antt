@@ -20,6 +20,6 @@ abbrev pub breadth : List Node → ℕ
 breadth factors = total (map (λ f. 2 ^ f .depth) factors)
 
 -- the product of a list's entries
-unfoldable pub product : List ℕ → ℕ
-product [] = 1
-product (x ∷ xs) = x * product xs
+unfoldable pub listProduct : List ℕ → ℕ
+listProduct [] = 1
+listProduct (x ∷ xs) = x * listProduct xs

@@ -1,6 +1,7 @@
 -- What a gate list means: each gate from what the lower gates are (source document 000, section 2).
 -- One interpretation serves all meanings; the value and the depth of a gate are two of them.
-use Prim.Native.Nat.{ℕ, _-_}
+use mathlib.Core.Path.{_≡_}
+use Prim.Native.Nat.{ℕ, suc, _-_}
 use mathlib.Core.List.{List, [], _∷_, _++_}
 use lib.ListN.{length, getD}
 use Rattle.circuit.specs.Gate.{Gate, Left, Right, Add, Sub, Scale, Flip, Mul}
@@ -43,6 +44,11 @@ module _ {A : Type 0} (alg : Algebra A) where
 
   abbrev pub entryAt : List Gate → ℕ → A
   entryAt gates k = entryOf (entries gates) k
+
+  -- each of these gates, of which the first has number k, is what it means by the others
+  abbrev pub Solves : (ℕ → A) → ℕ → List Gate → Type 0
+  Solves entry k [] = Unit {0}
+  Solves entry k (g ∷ gs) = (entry k ≡ meaning entry g) × Solves entry (suc k) gs
 
   -- "The last gate is the output."
   abbrev pub output : List Gate → A

@@ -1,16 +1,17 @@
--- What is proved of gate tables, for every p and any number of gates: reading back, what a refusal leaves, and bounds.
--- Proved in `proofs/Promises.antt`, `proofs/Later.antt`, `proofs/Bytes.antt`, `proofs/Unaltered.antt` and `proofs/Bounds.antt`.
+-- What is proved of gate tables, for every p and any number of gates: reading back, what a refusal leaves, what gates mean, and bounds.
+-- Proved in `proofs/Promises.antt`, `proofs/Later.antt`, `proofs/Bytes.antt`, `proofs/Unaltered.antt`, `proofs/Equations.antt` and
+-- `proofs/Bounds.antt`.
 use mathlib.Core.Path.{_≡_}
 use mathlib.Core.Bool.{true}
 use mathlib.Core.List.{List, [], _++_}
 use Prim.Native.Nat.{ℕ, _+_, _*_, _≤_, _<_}
-use lib.ListN.{length, drop}
+use lib.ListN.{length, take, drop}
 use Rattle.answer.specs.Outcome.{refused, accepted, Keeps}
 use Rattle.answer.specs.Report.{Report}
 use Rattle.digits.specs.Number.{allBelow}
 use Rattle.circuit.specs.Depth.{depths}
 use Rattle.circuit.specs.Gate.{Gate}
-use Rattle.circuit.specs.Meaning.{entries, entryAt, output}
+use Rattle.circuit.specs.Meaning.{Algebra, entries, entryAt, Solves, output}
 use Rattle.circuit.specs.Outcomes.{checking, trimming, runningTable, running}
 use Rattle.circuit.specs.Reading.{countOf, reading}
 use Rattle.circuit.specs.Report.{report}
@@ -53,6 +54,10 @@ ChecksOnlyTables =
 abbrev pub TrimsTables : Type 0
 TrimsTables = (table : Table) (later : List ℕ) → wellFormed table ≡ true → trimming (tableBytes table ++ later) ≡ tableBytes table
 
+-- whatever the bytes, what it hands back is their start
+abbrev pub TrimsStart : Type 0
+TrimsStart = (bytes : List ℕ) → take (length (trimming bytes)) bytes ≡ trimming bytes
+
 -- "where Check refuses, the empty part"
 abbrev pub TrimsNothing : Type 0
 TrimsNothing = (bytes : List ℕ) (number : ℕ) → checking bytes ≡ refused number → trimming bytes ≡ []
@@ -78,6 +83,20 @@ RunAccepts =
 -- "every lent byte is then unaltered"
 abbrev pub RunKeeps : Type 0
 RunKeeps = (bytes left right work : List ℕ) → Keeps work (running bytes left right work)
+
+-- ---- meaning
+
+-- of a table's gates, whatever is asked of them: one entry for each, and each is what its gate means by the others
+abbrev pub EachItsMeaning : Type 1
+EachItsMeaning =
+    (A : Type 0) (alg : Algebra A) (head : Head) (gates : List Gate) → allFit head 0 gates ≡ true
+    → (length (entries alg gates) ≡ length gates) × Solves alg (entryAt alg gates) 0 gates
+
+-- gates written after them change none of these
+abbrev pub EntriesKept : Type 1
+EntriesKept =
+    (A : Type 0) (alg : Algebra A) (gates later : List Gate) (k : ℕ) → k < length gates
+    → entryAt alg (gates ++ later) k ≡ entryAt alg gates k
 
 -- ---- bounds
 

@@ -1,28 +1,42 @@
 -- What is proved of product trees, over any factors.
--- Proved in `proofs/Choosing.antt`, `proofs/ProductTree.antt` and `proofs/Kraft.antt`.
+-- Proved in `proofs/ProductTree.antt` and `proofs/Kraft.antt`.
 use mathlib.Core.Path.{_≡_}
 use mathlib.Core.Bool.{true}
-use mathlib.Core.List.{List, _∷_, _++_, map, List·Permᴰ}
-use Prim.Native.Nat.{ℕ, _-_, _%_, _≤_, _<_}
+use mathlib.Core.List.{List, [], _∷_, _++_, map, List·Permᴰ}
+use Prim.Native.Nat.{ℕ, suc, _-_, _%_, _≤_, _<_}
 use lib.ListN.{length}
 use Rattle.field.specs.Logarithm.{clog}
 use Rattle.circuit.specs.Count.{isSquare, isProduct, count}
 use Rattle.circuit.specs.Depth.{depths}
 use Rattle.circuit.specs.Every.{Every}
-use Rattle.circuit.specs.Factors.{InOrder, Precedes, breadth, product}
-use Rattle.circuit.specs.Gate.{Gate}
+use Rattle.circuit.specs.Factors.{InOrder, Precedes, breadth, listProduct}
+use Rattle.circuit.specs.Gate.{Gate, Mul}
 use Rattle.circuit.specs.Meaning.{entryAt}
-use Rattle.circuit.specs.ProductTree.{least, productTree}
+use Rattle.circuit.specs.ProductTree.{times, productTree}
 use Rattle.circuit.specs.Segment.{Node}
 use Rattle.circuit.specs.Table.{Head, allFit}
 use Rattle.circuit.specs.Tree.{Tree, leaves, height}
 use Rattle.circuit.specs.Value.{values}
 
--- the factor chosen precedes all others: "least depth, equal depths by lower gate number"; and the others are what is left
+-- "while two factors remain, MUL the two of least depth, equal depths by lower gate number, first chosen as a; the product is a new factor.",
+-- as a rule that gates keep or break: those over the factors, from gate number k on, where the last factor left is the output
+abbrev pub TwoLeast : ℕ → List Node → List Gate → Node → Type 0
+TwoLeast k factors [] output = factors ≡ output ∷ []
+TwoLeast k factors (g ∷ gs) output =
+    (a : Node)
+    × (b : Node)
+    × (rest : List Node)
+    × (g ≡ Mul (a .gate) (b .gate))
+    × List·Permᴰ (a ∷ b ∷ rest) factors
+    × Every (Precedes a) (b ∷ rest)
+    × Every (Precedes b) rest
+    × TwoLeast (suc k) (rest ++ (times k a b ∷ [])) gs output
+
+-- the whole tree keeps it: every MUL names the two least of the factors that are left then, the least as a
 abbrev pub LeastFirst : Type 0
 LeastFirst =
-    (i k : ℕ) (x : Node) (xs : List Node) → InOrder i k (x ∷ xs)
-    → Every (Precedes (least x xs .chosen)) (least x xs .others) × List·Permᴰ (least x xs .chosen ∷ least x xs .others) (x ∷ xs)
+    (k : ℕ) (factors : List Node) → 1 ≤ length factors → InOrder 0 k factors
+    → TwoLeast k factors (productTree k factors .gates) (productTree k factors .output)
 
 -- over gates written before, the value is the product of the factors' values
 abbrev pub ProductValue : Type 0
@@ -31,7 +45,7 @@ ProductValue =
     → InOrder 0 (length gates) factors
     → let alg = values p left right in
     let tree = productTree (length gates) factors in
-    entryAt alg (gates ++ tree .gates) (tree .output .gate) % p ≡ product (map (λ (f : Node). entryAt alg gates (f .gate)) factors) % p
+    entryAt alg (gates ++ tree .gates) (tree .output .gate) % p ≡ listProduct (map (λ (f : Node). entryAt alg gates (f .gate)) factors) % p
 
 -- the depth is ceil(log2(sum of 2^depth))
 abbrev pub ProductDepth : Type 0

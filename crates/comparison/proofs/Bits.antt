@@ -14,7 +14,7 @@ use lib.ListN.{length}
 use Rattle.field.specs.Bit.{bit}
 use Rattle.field.specs.Logarithm.{flog}
 use Rattle.field.proofs.Logarithm.{flog-small, flog-half}
-use Rattle.comparison.specs.Bits.{bitsIn, bits, set, ones}
+use Rattle.comparison.specs.Bits.{bitsIn, bits, setBits, ones}
 
 -- ---- one step
 
@@ -77,14 +77,14 @@ bits-worth = bin-ind _ refl step
 
 -- ---- how many are set
 
-set-some : (bs : List Bool) → 1 ≤ worth bs → 1 ≤ set bs
-unfolding worth set
+set-some : (bs : List Bool) → 1 ≤ worth bs → 1 ≤ setBits bs
+unfolding worth setBits
 set-some [] h = h
 set-some (false ∷ bs) h = omega (arith, set-some bs (omega arith))
 set-some (true ∷ bs) h = omega arith
 
-set-below : (bs : List Bool) → set bs ≤ worth bs
-unfolding worth set
+set-below : (bs : List Bool) → setBits bs ≤ worth bs
+unfolding worth setBits
 set-below [] = le-refl 0
 set-below (b ∷ bs) = omega (arith, set-below bs)
 

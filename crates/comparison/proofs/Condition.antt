@@ -16,26 +16,25 @@ use Rattle.digits.specs.Number.{base, allBelow}
 use Rattle.circuit.specs.Count.{count, isProduct, isSquare}
 use Rattle.circuit.specs.Depth.{depths}
 use Rattle.circuit.specs.Gate.{Gate, Flip}
-use Rattle.circuit.specs.Meaning.{Algebra, entryAt}
+use Rattle.circuit.specs.Meaning.{Algebra, entryAt, Solves}
 use Rattle.circuit.specs.Segment.{Segment}
 use Rattle.circuit.specs.Table.{Head, leftSlots, rightSlots, allFit}
 use Rattle.circuit.specs.Value.{values}
 use Rattle.circuit.proofs.Count.{count-append}
 use Rattle.circuit.proofs.Fitting.{all-fit, fit-append, all-named}
-use Rattle.circuit.proofs.Meaning.{Solves, solves-append, later-solved}
+use Rattle.circuit.proofs.Meaning.{solves-append, later-solved}
 use Rattle.comparison.specs.Bits.{ones}
 use Rattle.comparison.specs.Condition.{Condition, numberIn}
 use Rattle.comparison.specs.Digits.{digitsFrom}
 use Rattle.comparison.specs.Formulas.{gatesBeforeFlip, conditionSize, productsOf, squaresOf, costSummand}
 use Rattle.comparison.specs.OrderDigit.{half}
 use Rattle.comparison.specs.Promises.{OutputIsLast, ConditionSized, ConditionFits, ConditionCounts, OrderCost, CostWithin, ConditionHolds, ConditionDepth}
-use Rattle.comparison.specs.Relation.{isOrder, isBackward, isFlipped}
+use Rattle.comparison.specs.Relation.{isOrder, isBackward, isFlipped, minuend, subtrahend, tested, flippedIf}
 use Rattle.comparison.specs.Writing.{joining, ending, conditionSegment}
 use Rattle.comparison.proofs.Bits.{ones-below, flog-below}
-use Rattle.comparison.proofs.DigitTests.{minuend, subtrahend}
 use Rattle.comparison.proofs.EqualityCondition.{equality-length, equality-count, equality-last, equality-fits, equality-value, equality-node, equality-depth}
 use Rattle.comparison.proofs.OrderCondition.{order-length, order-count, order-last, order-fits, order-value, order-depth}
-use Rattle.comparison.proofs.Relations.{tested, flippedIf, relation-is, sides, in-base}
+use Rattle.comparison.proofs.Relations.{relation-tested, sides, in-base}
 
 -- what FLIP makes of an entry where there is one
 abbrev flipIf : {A : Type 0} → Algebra A → Bool → A → A
@@ -226,7 +225,7 @@ condition-holds p left right gates c prime three odd some l r hl hr =
     let E = entryAt alg (gates ++ written) in
     let named = all-named head k written (condition-fits head k c three odd some (omega arith) (omega arith)) in
     let end = end-solved k s (body-last p three odd c some k) alg E b (later-solved alg gates written named) in
-    end .1 ∙ go b _ (body-value p three odd c some k prime left right E (end .0) l r hl hr) ∙ ap bit (relation-is (c .relation) _ _)
+    end .1 ∙ go b _ (body-value p three odd c some k prime left right E (end .0) l r hl hr) ∙ ap bit (relation-tested (c .relation) _ _)
   where
     go : (b t : Bool) {v : ℕ} → v ≡ bit t → flipIf (values p left right) b v ≡ bit (flippedIf b t)
     go true t e = ap (values p left right .flip) e ∙ flip-bit p (omega arith) t

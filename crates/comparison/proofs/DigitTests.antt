@@ -8,35 +8,26 @@ use mathlib.Core.List.{List}
 use Prim.Native.Nat.{ℕ, suc, _+_, _-_, _%_, _≤_, _<_}
 use native.Mathlib.Omega.{arith}
 use lib.Dec.{ltb, eqb}
-use lib.ListN.{length, getD}
+use lib.ListN.{length}
 use Rattle.field.specs.Bit.{bit}
 use Rattle.field.specs.Logarithm.{clog}
 use Rattle.field.specs.Modular.{subMod}
 use Rattle.field.specs.Polynomials.{zeroTest, orderPolynomial}
 use Rattle.field.specs.Primes.{Prime}
-use Rattle.digits.specs.Number.{base}
 use Rattle.digits.proofs.Comparing.{less-test, equal-test}
 use Rattle.circuit.specs.Depth.{depths}
-use Rattle.circuit.specs.Meaning.{Algebra, meaning}
+use Rattle.circuit.specs.Meaning.{Algebra, meaning, Solves}
 use Rattle.circuit.specs.Value.{values}
-use Rattle.circuit.proofs.Meaning.{Solves, solves-append}
+use Rattle.circuit.proofs.Meaning.{solves-append}
 use Rattle.comparison.specs.Condition.{Condition}
 use Rattle.comparison.specs.Difference.{minus, zGate}
+use Rattle.comparison.specs.DigitPromises.{firstDigit, secondDigit, InBase}
 use Rattle.comparison.specs.Digits.{tests, digitGates}
 use Rattle.comparison.specs.EqualityDigit.{zeroGates}
 use Rattle.comparison.specs.OrderDigit.{lessGates, lessGate, equalGates, equalGate}
-use Rattle.comparison.specs.Relation.{isOrder, isBackward}
+use Rattle.comparison.specs.Relation.{isOrder, isBackward, minuend, subtrahend}
 use Rattle.comparison.proofs.EqualityDigit.{zero-value, zero-depth}
 use Rattle.comparison.proofs.OrderDigit.{less-length, less-value, equal-value, less-depth, equal-depth}
-
--- the two sides in the order in which they are subtracted
-abbrev pub minuend : {A : Type 0} → Bool → A → A → A
-minuend false x y = x
-minuend true x y = y
-
-abbrev pub subtrahend : {A : Type 0} → Bool → A → A → A
-subtrahend false x y = y
-subtrahend true x y = x
 
 -- the tests of an order digit
 order-parts : (p : ℕ) → 3 ≤ p → p % 2 ≡ 1 → {A : Type 0} (alg : Algebra A) (E : ℕ → A) (j k : ℕ)
@@ -47,17 +38,6 @@ order-parts p three odd alg E j k h =
     let s = solves-append alg E (lessGates p k) (equalGates p j k) (suc (zGate k)) h in (s .0, rw after at (s .1))
 
 -- ---- values
-
--- the digits number j of a condition, in that order
-abbrev pub firstDigit : List ℕ → List ℕ → Condition → ℕ → ℕ
-firstDigit left right c j = minuend (isBackward (c .relation)) (getD left (c .left + j) 0) (getD right (c .right + j) 0)
-
-abbrev pub secondDigit : List ℕ → List ℕ → Condition → ℕ → ℕ
-secondDigit left right c j = subtrahend (isBackward (c .relation)) (getD left (c .left + j) 0) (getD right (c .right + j) 0)
-
--- both are below the base
-abbrev pub InBase : ℕ → List ℕ → List ℕ → Condition → ℕ → Type 0
-InBase p left right c j = (firstDigit left right c j < base p) × (secondDigit left right c j < base p)
 
 module _ (p : ℕ) (prime : Prime p) (three : 3 ≤ p) (odd : p % 2 ≡ 1) (left right : List ℕ) (E : ℕ → ℕ) (c : Condition) (k : ℕ) where
   minus-value : (b : Bool)

@@ -13,11 +13,11 @@ use Rattle.field.specs.Bit.{bit}
 use Rattle.field.specs.Logarithm.{flog}
 use Rattle.circuit.specs.Count.{count, isProduct, isSquare}
 use Rattle.circuit.specs.Gate.{Gate, Left, Right}
-use Rattle.circuit.specs.Meaning.{Algebra}
+use Rattle.circuit.specs.Meaning.{Algebra, Solves}
 use Rattle.circuit.specs.Table.{Head, leftSlots, rightSlots, allFit}
 use Rattle.circuit.proofs.Count.{count-append}
 use Rattle.circuit.proofs.Fitting.{AllFitted, all-fit, fit-append}
-use Rattle.circuit.proofs.Meaning.{Solves, solves-append}
+use Rattle.circuit.proofs.Meaning.{solves-append}
 use Rattle.comparison.specs.Bits.{ones}
 use Rattle.comparison.specs.Condition.{Condition}
 use Rattle.comparison.specs.Difference.{minus, difference, zGate}
@@ -109,7 +109,7 @@ module _ (p : ℕ) (three : 3 ≤ p) (odd : p % 2 ≡ 1) where
       fit-append head (suc (zGate k)) (lessGates p k) _ (less-fits p three odd head k prime) (rw after (equal-fits p three odd head j k))
   tests-fit head false j k prime = zero-fits head p k
 
-  digit-fits : (head : Head) (c : Condition) (j k : ℕ) → head .prime ≡ p → c .left + j < leftSlots head → c .right + j < rightSlots head
+  pub digit-fits : (head : Head) (c : Condition) (j k : ℕ) → head .prime ≡ p → c .left + j < leftSlots head → c .right + j < rightSlots head
       → allFit head k (digitGates p c j k) ≡ true
   digit-fits head c j k prime l r =
       let after : k + 3 ≡ suc (zGate k) = omega arith in

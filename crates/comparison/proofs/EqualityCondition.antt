@@ -23,9 +23,9 @@ use Rattle.digits.proofs.Number.{number-one}
 use Rattle.circuit.specs.Count.{count, isProduct, isSquare}
 use Rattle.circuit.specs.Depth.{depths}
 use Rattle.circuit.specs.Every.{Every}
-use Rattle.circuit.specs.Factors.{InOrder, breadth, product}
+use Rattle.circuit.specs.Factors.{InOrder, breadth, listProduct}
 use Rattle.circuit.specs.Gate.{Gate}
-use Rattle.circuit.specs.Meaning.{Algebra}
+use Rattle.circuit.specs.Meaning.{Algebra, Solves}
 use Rattle.circuit.specs.ProductTree.{least}
 use Rattle.circuit.specs.Segment.{Node, Segment}
 use Rattle.circuit.specs.Table.{Head, leftSlots, rightSlots, allFit}
@@ -33,12 +33,13 @@ use Rattle.circuit.specs.Value.{values}
 use Rattle.circuit.proofs.Choosing.{firstOf}
 use Rattle.circuit.proofs.Count.{count-append}
 use Rattle.circuit.proofs.Fitting.{fit-append}
-use Rattle.circuit.proofs.Meaning.{Solves, solves-append}
+use Rattle.circuit.proofs.Meaning.{solves-append}
 use Rattle.circuit.proofs.ProductTree.{tree-last, product-fits, product-count, multiply-value, multiply-below, multiply-entry}
 use Rattle.circuit.proofs.TreeDepth.{tree-depth}
 use Rattle.comparison.specs.Bits.{ones}
 use Rattle.comparison.specs.Condition.{Condition}
 use Rattle.comparison.specs.Difference.{zGate}
+use Rattle.comparison.specs.DigitPromises.{firstDigit, secondDigit, InBase}
 use Rattle.comparison.specs.Digits.{digitGates, digitStart, digitsFrom}
 use Rattle.comparison.specs.EqualityDigit.{zeroGates}
 use Rattle.comparison.specs.Formulas.{gatesBeforeFlip}
@@ -46,7 +47,7 @@ use Rattle.comparison.specs.OrderDigit.{ascending}
 use Rattle.comparison.specs.Relation.{isOrder}
 use Rattle.comparison.specs.Writing.{equalityFactors, equalityJoining}
 use Rattle.comparison.proofs.Digits.{digits-end, each-digit, digits-fit, digits-count}
-use Rattle.comparison.proofs.DigitTests.{firstDigit, secondDigit, InBase, zero-is, zero-deep}
+use Rattle.comparison.proofs.DigitTests.{zero-is, zero-deep}
 use Rattle.comparison.proofs.EqualityDigit.{zero-length}
 
 -- numbers of a lowest digit and others are equal where these are
@@ -181,8 +182,8 @@ module _ (p : ℕ) (three : 3 ≤ p) (odd : p % 2 ≡ 1) (c : Condition) (equali
     abbrev sameFrom : ℕ → ℕ → Bool
     sameFrom n j = eqb (number (base p) (map x (ascending n j))) (number (base p) (map y (ascending n j)))
 
-    product-is : (n j : ℕ) → n + j ≤ c .digits → product (map (λ (f : Node). E (f .gate)) (factorsFrom n j)) ≡ bit (sameFrom n j)
-    unfolding equalityFactors product ascending
+    product-is : (n j : ℕ) → n + j ≤ c .digits → listProduct (map (λ (f : Node). E (f .gate)) (factorsFrom n j)) ≡ bit (sameFrom n j)
+    unfolding equalityFactors listProduct ascending
     product-is zero j l = ap bit (sym (eq-eqb (number (base p) []) (number (base p) []) refl))
     product-is (suc n) j l =
         ap₂ _*_ (factor-value j (omega arith)) (product-is n (suc j) (omega arith))

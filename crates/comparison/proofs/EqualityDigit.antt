@@ -14,16 +14,15 @@ use Rattle.field.specs.Bit.{bit}
 use Rattle.field.specs.Logarithm.{flog, clog}
 use Rattle.field.specs.Modular.{residue}
 use Rattle.field.specs.Polynomials.{zeroTest}
-use Rattle.field.proofs.Logarithm.{clog-iff, clog-small, clog-between, clog-power}
+use Rattle.field.proofs.Logarithm.{clog-is-ceiling, clog-small, clog-between, clog-power}
 use Rattle.field.proofs.Modular.{mod-same, mul-cong, mulMod-is, sub-cong}
 use Rattle.circuit.specs.Count.{count, isProduct, isSquare}
 use Rattle.circuit.specs.Depth.{depths}
-use Rattle.circuit.specs.Meaning.{Algebra}
+use Rattle.circuit.specs.Meaning.{Algebra, Solves}
 use Rattle.circuit.specs.Table.{Head, allFit}
 use Rattle.circuit.specs.Value.{values}
 use Rattle.circuit.proofs.Fitting.{AllFitted, all-fit}
-use Rattle.circuit.proofs.Meaning.{Solves}
-use Rattle.comparison.specs.Bits.{bits, set, ones}
+use Rattle.comparison.specs.Bits.{bits, setBits, ones}
 use Rattle.comparison.specs.Difference.{zGate}
 use Rattle.comparison.specs.EqualityDigit.{Collected, nothing, power, heldBy, chain, zeroChain, zeroGates}
 use Rattle.comparison.proofs.Bits.{bits-length, worth, bits-worth, ones-some}
@@ -129,7 +128,7 @@ zero-value p left right E k h s =
 pub deeper : (a b e j : ℕ) → 1 ≤ e → e ≤ 2 ^ j → a ≡ clog e → b ≡ clog (2 ^ j) → suc (max a b) ≡ clog (e + 2 ^ j)
 deeper a b e j l m f g =
     let top = clog-power j in
-    let low = clog-iff e j .0 m in
+    let low = clog-is-ceiling e j .0 m in
     rw (max-eq-right {n = a} {m = b} (omega arith)) (omega (arith, clog-between (e + 2 ^ j) j (omega arith) (omega arith)))
 
 pub zero-depth : (E : ℕ → ℕ) (p k : ℕ) → 2 ≤ p → Solves depths E (suc (zGate k)) (zeroGates p k) → E (zGate k) ≡ 0
@@ -173,16 +172,16 @@ had (power collected) = 1
 
 -- one square for each bit, one product for each set bit but the first, and FLIP
 chain-length : (bs : List Bool) (k running : ℕ) (c : Collected)
-    → length (chain bs k running c) ≡ suc (length bs + (set bs + had c - 1))
-unfolding chain set
+    → length (chain bs k running c) ≡ suc (length bs + (setBits bs + had c - 1))
+unfolding chain setBits
 chain-length [] k running nothing = refl
 chain-length [] k running (power collected) = refl
 chain-length (false ∷ bs) k running c = omega (arith, chain-length bs (suc k) k c)
 chain-length (true ∷ bs) k running nothing = omega (arith, chain-length bs (suc k) k (power k))
 chain-length (true ∷ bs) k running (power collected) = omega (arith, chain-length bs (suc (suc k)) k (power (suc k)))
 
-pub start-length : (bs : List Bool) (k z : ℕ) → 1 ≤ set bs → suc (length (zeroChain bs k z)) ≡ length bs + set bs
-unfolding set
+pub start-length : (bs : List Bool) (k z : ℕ) → 1 ≤ setBits bs → suc (length (zeroChain bs k z)) ≡ length bs + setBits bs
+unfolding setBits
 start-length [] k z some = absurd (omega arith)
 start-length (false ∷ bs) k z some = omega (arith, chain-length bs k z nothing)
 start-length (true ∷ bs) k z some = omega (arith, chain-length bs k z (power z))
@@ -196,8 +195,8 @@ zero-length p k h =
 
 -- no power that is collected is multiplied by itself
 chain-count : (bs : List Bool) (k running : ℕ) (c : Collected) → heldBy c running < k
-    → (count isProduct (chain bs k running c) ≡ set bs + had c - 1) × (count isSquare (chain bs k running c) ≡ length bs)
-unfolding chain set count
+    → (count isProduct (chain bs k running c) ≡ setBits bs + had c - 1) × (count isSquare (chain bs k running c) ≡ length bs)
+unfolding chain setBits count
 chain-count [] k running nothing h = (refl, refl)
 chain-count [] k running (power collected) h = (refl, refl)
 chain-count (false ∷ bs) k running c h =
@@ -210,9 +209,9 @@ chain-count (true ∷ bs) k running (power collected) h =
     let later = chain-count bs (suc (suc k)) k (power (suc k)) (le-refl _) in
     rw (eq-eqb running running refl, ne-eqb collected k (λ e. omega arith)) (omega (arith, later))
 
-start-count : (bs : List Bool) (k z : ℕ) → z < k → 1 ≤ set bs
-    → (count isProduct (zeroChain bs k z) ≡ set bs - 1) × (suc (count isSquare (zeroChain bs k z)) ≡ length bs)
-unfolding set
+start-count : (bs : List Bool) (k z : ℕ) → z < k → 1 ≤ setBits bs
+    → (count isProduct (zeroChain bs k z) ≡ setBits bs - 1) × (suc (count isSquare (zeroChain bs k z)) ≡ length bs)
+unfolding setBits
 start-count [] k z l some = absurd (omega arith)
 start-count (false ∷ bs) k z l some = omega (arith, chain-count bs k z nothing l)
 start-count (true ∷ bs) k z l some = omega (arith, chain-count bs k z (power z) l)

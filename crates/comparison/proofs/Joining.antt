@@ -20,12 +20,12 @@ use Rattle.digits.proofs.Number.{number-one, below-append}
 use Rattle.digits.proofs.Comparing.{number-less, number-equal}
 use Rattle.circuit.specs.Depth.{depths}
 use Rattle.circuit.specs.Gate.{Gate, Add, Mul}
-use Rattle.circuit.specs.Meaning.{Algebra}
+use Rattle.circuit.specs.Meaning.{Algebra, Solves}
 use Rattle.circuit.specs.Table.{Head, allFit}
 use Rattle.circuit.specs.Tree.{Tree, leaf, join, leaves, height}
 use Rattle.circuit.specs.Value.{values}
 use Rattle.circuit.proofs.Fitting.{all-fit, fit-append}
-use Rattle.circuit.proofs.Meaning.{Solves, solves-append}
+use Rattle.circuit.proofs.Meaning.{solves-append}
 use Rattle.comparison.specs.Joining.{joinRun, joinLowest}
 use Rattle.comparison.proofs.Halves.{Each, Upper, each-map}
 

@@ -11,6 +11,7 @@ pub mod Joining
 pub mod JoiningCount
 pub mod Digits
 pub mod DigitTests
+pub mod DigitPromises
 pub mod OrderCondition
 pub mod EqualityCondition
 pub mod Relations

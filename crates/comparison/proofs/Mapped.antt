@@ -11,10 +11,9 @@ use lib.ListN.{length, getD}
 use Rattle.field.specs.Polynomials.{everySecond}
 use Rattle.circuit.specs.Every.{Every}
 use Rattle.circuit.specs.Gate.{Gate}
-use Rattle.circuit.specs.Meaning.{Algebra, meaning}
+use Rattle.circuit.specs.Meaning.{Algebra, meaning, Solves}
 use Rattle.circuit.specs.Table.{Head, allFit}
 use Rattle.circuit.proofs.Fitting.{Fitted, one-fits}
-use Rattle.circuit.proofs.Meaning.{Solves}
 use Rattle.comparison.specs.OrderDigit.{ascending}
 
 pub solves-map : {A : Type 0} (alg : Algebra A) (E : ℕ → A) (f : ℕ → Gate) (xs : List ℕ) (k : ℕ) → Solves alg E k (map f xs)

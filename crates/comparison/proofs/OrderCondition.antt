@@ -17,14 +17,15 @@ use Rattle.digits.specs.Number.{base, number}
 use Rattle.circuit.specs.Count.{count, isProduct, isSquare}
 use Rattle.circuit.specs.Depth.{depths}
 use Rattle.circuit.specs.Gate.{Gate}
-use Rattle.circuit.specs.Meaning.{Algebra}
+use Rattle.circuit.specs.Meaning.{Algebra, Solves}
 use Rattle.circuit.specs.Segment.{Segment}
 use Rattle.circuit.specs.Table.{Head, leftSlots, rightSlots, allFit}
 use Rattle.circuit.specs.Value.{values}
 use Rattle.circuit.proofs.Count.{count-append}
 use Rattle.circuit.proofs.Fitting.{fit-append}
-use Rattle.circuit.proofs.Meaning.{Solves, solves-append}
+use Rattle.circuit.proofs.Meaning.{solves-append}
 use Rattle.comparison.specs.Condition.{Condition}
+use Rattle.comparison.specs.DigitPromises.{firstDigit, secondDigit, InBase}
 use Rattle.comparison.specs.Digits.{digitGates, digitStart, digitsFrom}
 use Rattle.comparison.specs.Formulas.{gatesBeforeFlip}
 use Rattle.comparison.specs.Joining.{halves}
@@ -32,7 +33,7 @@ use Rattle.comparison.specs.OrderDigit.{half, ascending, powerCount, les
 use Rattle.comparison.specs.Relation.{isOrder}
 use Rattle.comparison.specs.Writing.{orderJoining}
 use Rattle.comparison.proofs.Digits.{digits-end, each-digit, digits-fit, digits-count}
-use Rattle.comparison.proofs.DigitTests.{firstDigit, secondDigit, InBase, less-is, equal-is, less-deep, equal-deep}
+use Rattle.comparison.proofs.DigitTests.{less-is, equal-is, less-deep, equal-deep}
 use Rattle.comparison.proofs.Halves.{halves-leaves, halves-height, halves-each, halves-upper}
 use Rattle.comparison.proofs.Joining.{lowest-fits, lowest-value, lowest-depth}
 use Rattle.comparison.proofs.JoiningCount.{joining-length, joining-count, joining-last}

@@ -18,13 +18,13 @@ use Rattle.field.proofs.OrderConstants.{length-second}
 use Rattle.circuit.specs.Count.{count, isProduct, isSquare}
 use Rattle.circuit.specs.Depth.{depths}
 use Rattle.circuit.specs.Every.{Every}
-use Rattle.circuit.specs.Meaning.{Algebra}
+use Rattle.circuit.specs.Meaning.{Algebra, Solves}
 use Rattle.circuit.specs.Table.{Head, allFit}
 use Rattle.circuit.specs.Value.{values}
 use Rattle.circuit.proofs.Count.{count-append}
 use Rattle.circuit.proofs.Every.{every-append, every-last}
 use Rattle.circuit.proofs.Fitting.{all-fit, fit-append}
-use Rattle.circuit.proofs.Meaning.{Solves, solves-append}
+use Rattle.circuit.proofs.Meaning.{solves-append}
 use Rattle.comparison.specs.Difference.{zGate}
 use Rattle.comparison.specs.OrderDigit.{half, powers, powerCount, powerGate, terms, termStart, lessGates, lessGate, equalGates, equalGate}
 use Rattle.comparison.proofs.Mapped.{every-second}

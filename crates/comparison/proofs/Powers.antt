@@ -18,9 +18,9 @@ use Rattle.field.proofs.Logarithm.{clog-half, clog-small, clog-mono}
 use Rattle.field.proofs.Modular.{mod-same, mul-cong, mulMod-is}
 use Rattle.field.proofs.OrderConstants.{length-second, second-at}
 use Rattle.circuit.specs.Depth.{depths}
-use Rattle.circuit.specs.Meaning.{Algebra, meaning}
+use Rattle.circuit.specs.Meaning.{Algebra, meaning, Solves}
 use Rattle.circuit.specs.Value.{values}
-use Rattle.circuit.proofs.Meaning.{Solves, solves-append}
+use Rattle.circuit.proofs.Meaning.{solves-append}
 use Rattle.comparison.specs.OrderDigit.{half, lowExponents, nextOdd, oddExponents, lowPower, powerOf, powers, powerCount, powerGate}
 use Rattle.comparison.proofs.Mapped.{solves-map, length-ascending, ascending-at}
 

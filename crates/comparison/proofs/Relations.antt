@@ -9,26 +9,17 @@ use native.Mathlib.Omega.{arith}
 use native.Mathlib.Decide.{decLe}
 use native.Mathlib.Nat.{add-zero, lt-of-not-le}
 use borrow.Author.Tests.{lt-ltb, le-ltb, le-leb, lt-leb}
-use lib.Dec.{ltb, leb, eqb}
+use lib.Dec.{ltb, leb}
 use lib.ListN.{length, take, drop, getD}
 use lib.Seq.{drop-cons}
 use Rattle.digits.specs.Number.{base, number, allBelow}
 use Rattle.digits.proofs.Number.{below-at}
 use Rattle.comparison.specs.Condition.{Condition, numberIn}
+use Rattle.comparison.specs.DigitPromises.{firstDigit, secondDigit, InBase}
 use Rattle.comparison.specs.OrderDigit.{ascending}
-use Rattle.comparison.specs.Relation.{Relation, Less, AtMost, Greater, AtLeast, Equal, NotEqual, isTrue, isOrder, isBackward, isFlipped}
-use Rattle.comparison.proofs.DigitTests.{minuend, subtrahend, firstDigit, secondDigit, InBase}
+use Rattle.comparison.specs.Relation.{Less, AtMost, Greater, AtLeast, Equal, NotEqual, isBackward, minuend, subtrahend, RelationTested}
 
 -- ---- relations
-
--- what a condition tests before its FLIP
-abbrev pub tested : Bool → ℕ → ℕ → Bool
-tested true x y = ltb x y
-tested false x y = eqb x y
-
-abbrev pub flippedIf : Bool → Bool → Bool
-flippedIf true t = not t
-flippedIf false t = t
 
 not-greater : (x y : ℕ) → not (ltb y x) ≡ leb x y
 not-greater x y = go (decLe x y)
@@ -37,14 +28,13 @@ not-greater x y = go (decLe x y)
     go (yes l) = rw (le-ltb y x l, le-leb x y l)
     go (no n) = rw (lt-ltb y x (lt-of-not-le n), lt-leb x y (lt-of-not-le n))
 
-pub relation-is : (r : Relation) (x y : ℕ)
-    → flippedIf (isFlipped r) (tested (isOrder r) (minuend (isBackward r) x y) (subtrahend (isBackward r) x y)) ≡ isTrue r x y
-relation-is Less x y = refl
-relation-is AtMost x y = not-greater x y
-relation-is Greater x y = refl
-relation-is AtLeast x y = not-greater y x
-relation-is Equal x y = refl
-relation-is NotEqual x y = refl
+pub relation-tested : RelationTested
+relation-tested Less x y = refl
+relation-tested AtMost x y = not-greater x y
+relation-tested Greater x y = refl
+relation-tested AtLeast x y = not-greater y x
+relation-tested Equal x y = refl
+relation-tested NotEqual x y = refl
 
 -- ---- slots
 

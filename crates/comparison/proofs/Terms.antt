@@ -18,12 +18,12 @@ use Rattle.circuit.specs.Count.{count, isProduct, isSquare}
 use Rattle.circuit.specs.Depth.{depths}
 use Rattle.circuit.specs.Every.{Every}
 use Rattle.circuit.specs.Gate.{Add}
+use Rattle.circuit.specs.Meaning.{Solves}
 use Rattle.circuit.specs.Table.{Head, fits, allFit}
 use Rattle.circuit.specs.Value.{values}
 use Rattle.circuit.proofs.Constant.{code-fits, code-is}
 use Rattle.circuit.proofs.Every.{every-map}
 use Rattle.circuit.proofs.Fitting.{one-fits}
-use Rattle.circuit.proofs.Meaning.{Solves}
 use Rattle.comparison.specs.OrderDigit.{powerGate, term, laterTerms, terms}
 
 -- ---- values

@@ -15,11 +15,11 @@ unfolding bitsIn
 bits t = bitsIn t t
 
 -- how many are set
-unfoldable pub set : List Bool → ℕ
-set [] = 0
-set (b ∷ bs) = bit b + set bs
+unfoldable pub setBits : List Bool → ℕ
+setBits [] = 0
+setBits (b ∷ bs) = bit b + setBits bs
 
 -- "ones(t)"
 unfoldable pub ones : ℕ → ℕ
-unfolding bits set
-ones t = set (bits t)
+unfolding bits setBits
+ones t = setBits (bits t)

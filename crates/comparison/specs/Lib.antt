@@ -9,4 +9,5 @@ pub mod Digits
 pub mod Joining
 pub mod Writing
 pub mod Formulas
+pub mod DigitPromises
 pub mod Promises

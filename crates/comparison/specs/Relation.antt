@@ -1,4 +1,5 @@
 -- "Relations between left (record) and right (query): 1 <, 2 <=, 3 >, 4 >=, 5 =, 6 not equal." (document 01, "Card")
+use mathlib.Core.Path.{_≡_}
 use Prim.Native.Nat.{ℕ}
 use mathlib.Core.Bool.{Bool, true, false, not}
 use mathlib.Core.List.{List, [], _∷_}
@@ -59,3 +60,29 @@ isFlipped Greater = false
 isFlipped AtLeast = true
 isFlipped Equal = false
 isFlipped NotEqual = true
+
+-- ---- what the gates of a relation test
+
+-- the two sides in the order in which they are subtracted
+abbrev pub minuend : {A : Type 0} → Bool → A → A → A
+minuend false x y = x
+minuend true x y = y
+
+abbrev pub subtrahend : {A : Type 0} → Bool → A → A → A
+subtrahend false x y = y
+subtrahend true x y = x
+
+-- of the two in that order: the first is smaller, or they are equal
+abbrev pub tested : Bool → ℕ → ℕ → Bool
+tested true x y = ltb x y
+tested false x y = eqb x y
+
+abbrev pub flippedIf : Bool → Bool → Bool
+flippedIf true t = not t
+flippedIf false t = t
+
+-- with its FLIP, that is the relation: 2, 4 and 6 are the opposites of 3, 1 and 5. Proved in `proofs/Relations.antt`
+abbrev pub RelationTested : Type 0
+RelationTested =
+    (r : Relation) (x y : ℕ)
+    → flippedIf (isFlipped r) (tested (isOrder r) (minuend (isBackward r) x y) (subtrahend (isBackward r) x y)) ≡ isTrue r x y

@@ -13,13 +13,13 @@ use lib.ListN.{length, drop, getD}
 use Rattle.field.specs.Primes.{listed}
 use Rattle.field.specs.Sum.{sum}
 use Rattle.field.proofs.Tests.{both}
-use Rattle.field.proofs.Primes.{listed-iff}
+use Rattle.field.proofs.Primes.{listed-is-odd-prime}
 use Rattle.field.proofs.Sum.{sum-shift, sum-same, sum-mul}
 use Rattle.digits.specs.Number.{base, number, allBelow, digitsOf}
 
 -- the base of a listed prime
 pub base-pos : (p : ℕ) → listed p ≡ true → 0 < base p
-base-pos p t = omega (arith, listed-iff p .0 t .low)
+base-pos p t = omega (arith, listed-is-odd-prime p .0 t .low)
 
 -- ---- the number of a list
 

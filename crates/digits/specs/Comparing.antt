@@ -30,9 +30,9 @@ LessTest =
 abbrev pub EqualTest : Type 0
 EqualTest = (p x y : ℕ) → Prime p → x < p → y < p → zeroTest p (subMod p x y) ≡ bit (eqb x y)
 
--- "Digits up to p-1: p=5, 0 < 3 comes out 0." So the digits of LessTest have to be below B
+-- "Digits up to p-1: p=5, 0 < 3 comes out 0." So the digits of LessTest have to be below B, which is 3 at p=5
 abbrev pub FullRangeFails : Type 0
-FullRangeFails = ((x y : ℕ) → x < 5 → y < 5 → orderPolynomial 5 (subMod 5 x y) % 5 ≡ bit (ltb x y)) → ⊥
+FullRangeFails = (ltb 0 3 ≡ true) × (orderPolynomial 5 (subMod 5 0 3) % 5 ≡ 0)
 
 -- ---- numbers, lowest digit first: equally many low digits on both sides, each below B, and any high ones
 

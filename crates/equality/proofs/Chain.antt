@@ -23,7 +23,7 @@ use Rattle.writer.specs.declared.Pen.{Pen}
 use Rattle.writer.specs.declared.Written.{Written}
 use Rattle.writer.specs.Nodes.{nodeIs}
 use Rattle.writer.specs.Pen.{Wrote}
-use Rattle.equality.specs.Collecting.{product, collectedBy}
+use Rattle.equality.specs.Collecting.{productAt, collectedBy}
 use Rattle.writer.specs.Remains.{Remains}
 use Rattle.writer.proofs.Remains.{remains-as, remains-then}
 
@@ -46,7 +46,7 @@ chain-set t k running odd = rw (bits-cons t (omega arith), odd, add-one k)
 -- a later bit
 bit-later : (b : Bool) (bs : List Bool) (k running : ℕ) (collected square : segment.Node)
     → chain (b ∷ bs) k running (power (collected .gate))
-    ≡ Mul running running ∷ (product b (collected .gate) k ++ chain bs (k + 1 + bit b) k (power (collectedBy b (k + 1) collected square .gate)))
+    ≡ Mul running running ∷ (productAt b (collected .gate) k ++ chain bs (k + 1 + bit b) k (power (collectedBy b (k + 1) collected square .gate)))
 unfolding chain
 bit-later true bs k running collected square = rw (add-one k, add-one (suc k))
 bit-later false bs k running collected square = rw (add-zero (k + 1), add-one k)
@@ -54,7 +54,7 @@ bit-later false bs k running collected square = rw (add-zero (k + 1), add-one k)
 chain-later : (t k running : ℕ) (collected square : segment.Node) → 1 ≤ t
     → chain (bits t) k running (power (collected .gate))
     ≡ Mul running running
-    ∷ (product (eqb (t % 2) 1) (collected .gate) k
+    ∷ (productAt (eqb (t % 2) 1) (collected .gate) k
     ++ chain (bits (t / 2)) (k + 1 + bit (eqb (t % 2) 1)) k (power (collectedBy (eqb (t % 2) 1) (k + 1) collected square .gate)))
 chain-later t k running collected square some = rw (bits-cons t some) (bit-later (eqb (t % 2) 1) (bits (t / 2)) k running collected square)
 
@@ -71,7 +71,7 @@ chain-some (false ∷ bs) k running c = omega arith
 chain-some (true ∷ bs) k running nothing = omega arith
 chain-some (true ∷ bs) k running (power collected) = omega arith
 
-product-length : (b : Bool) (collected running : ℕ) → length (product b collected running) ≡ bit b
+product-length : (b : Bool) (collected running : ℕ) → length (productAt b collected running) ≡ bit b
 product-length true collected running = refl
 product-length false collected running = refl
 
@@ -120,7 +120,7 @@ module _ {table : List ℕ} {pen : Pen} {all : List Gate} where
     onward k r = chain (bits (rest / 2)) (k + bit b) r (power (collectedBy b k (nodeIs (collected .node)) (nodeIs (square .node)) .gate))
 
     abbrev later : ℕ → ℕ → List Gate
-    later k r = product b (collected .node .gate) r ++ onward k r
+    later k r = productAt b (collected .node .gate) r ++ onward k r
 
     after-square : Remains table pen all table₂ (square .pen) (later (square .pen .next) (square .node .gate))
     after-square =
@@ -134,10 +134,10 @@ module _ {table : List ℕ} {pen : Pen} {all : List Gate} where
     product-room =
         let g = collected .node .gate in
         let r = square .node .gate in
-        omega (arith, after-square .number, length-append (product b g r) (onward (square .pen .next) r), product-length b g r)
+        omega (arith, after-square .number, length-append (productAt b g r) (onward (square .pen .next) r), product-length b g r)
 
     pub after-later : {table₃ : List ℕ} (set : Written)
-        → Wrote table₂ (square .pen) (product b (collected .node .gate) (square .node .gate)) table₃ (set .pen)
+        → Wrote table₂ (square .pen) (productAt b (collected .node .gate) (square .node .gate)) table₃ (set .pen)
         → nodeIs (set .node) ≡ collectedBy b (square .pen .next) (nodeIs (collected .node)) (nodeIs (square .node))
         → Remains table pen all table₃ (set .pen) (chain (bits (rest / 2)) (set .pen .next) (square .node .gate) (power (set .node .gate)))
     after-later set wrote is =

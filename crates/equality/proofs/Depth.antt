@@ -9,7 +9,7 @@ use lib.Dec.{eqb}
 use lib.Pow.{pow-pos}
 use Rattle.field.specs.Bit.{bit}
 use Rattle.field.specs.Logarithm.{clog}
-use Rattle.field.proofs.Logarithm.{clog-iff, clog-power}
+use Rattle.field.proofs.Logarithm.{clog-is-ceiling, clog-power}
 use Rattle.circuit.specs.ProductTree.{times}
 use Rattle.circuit.specs.Segment as segment
 use Rattle.comparison.proofs.Bits.{bit-of}
@@ -36,7 +36,7 @@ halved-odd j rest t odd e =
 
 -- p is below 256
 pub shallow : (j rest t : ℕ) → 1 ≤ rest → t < 256 → 2 ^ j * rest ≤ t → j ≤ 8
-shallow j (suc rest) t some small e = omega (arith, clog-iff (2 ^ j) 8 .0 (omega arith), clog-power j)
+shallow j (suc rest) t some small e = omega (arith, clog-is-ceiling (2 ^ j) 8 .0 (omega arith), clog-power j)
 shallow j zero t some small e = absurd (omega arith)
 
 -- ---- the collected power
@@ -103,4 +103,4 @@ collects-all t rest j depth none c =
 
 pub collects-shallow : (t rest j depth : ℕ) → 1 ≤ rest → t < 256 → Collects t rest j depth → (j ≤ 7) × (depth ≤ 8)
 collects-shallow t rest j depth some small c =
-    omega (arith, shallow (suc j) rest t some small (omega (arith, c .sum)), c .deep, clog-iff (c .exponent) 8 .0 (omega (arith, c .sum)))
+    omega (arith, shallow (suc j) rest t some small (omega (arith, c .sum)), c .deep, clog-is-ceiling (c .exponent) 8 .0 (omega (arith, c .sum)))

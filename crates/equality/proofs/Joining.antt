@@ -6,7 +6,7 @@ use mathlib.Core.List.{List}
 use Prim.Native.Nat.{ℕ, zero, suc, _+_, _-_, _≤_, _<_}
 use native.Mathlib.Omega.{arith}
 use lib.ListN.{length, length-append}
-use Rattle.field.proofs.Logarithm.{clog-iff}
+use Rattle.field.proofs.Logarithm.{clog-is-ceiling}
 use Rattle.digits.specs.Number.{mostDigits}
 use Rattle.circuit.specs.Gate.{Gate}
 use Rattle.circuit.specs.ProductTree.{productTree}
@@ -50,7 +50,7 @@ module _ (p : ℕ) (slots : Slots) (k : ℕ) where
     pub outputs-shallow : p < 256 → slots .count ≤ mostDigits → Shallow (slots .count) factors
     outputs-shallow small few =
         rw are
-        (factors-shallow p (equalityCondition slots) k (slots .count) (slots .count) 0 (omega (arith, clog-iff (p - 1) 8 .0 (omega arith))))
+        (factors-shallow p (equalityCondition slots) k (slots .count) (slots .count) 0 (omega (arith, clog-is-ceiling (p - 1) 8 .0 (omega arith))))
 
     -- one product fewer than digits
     pub whole-length : length factors ≡ slots .count → length (equalitySegment p slots k .gates) ≡ length digits + (slots .count - 1)

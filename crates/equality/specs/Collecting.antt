@@ -11,9 +11,9 @@ use Rattle.comparison.specs.EqualityDigit.{power, chain}
 use Rattle.writer.specs.declared.Written.{Written}
 
 -- the gate written where a collected power exists: one at a set bit
-abbrev pub product : Bool → ℕ → ℕ → List Gate
-product true collected running = Mul collected running ∷ []
-product false collected running = []
+abbrev pub productAt : Bool → ℕ → ℕ → List Gate
+productAt true collected running = Mul collected running ∷ []
+productAt false collected running = []
 
 -- the collected power after it, where gate number k is the next
 abbrev pub collectedBy : Bool → ℕ → Node → Node → Node

@@ -21,7 +21,7 @@ ghost use Rattle.tree.specs.Factors.{nodes};
 ghost use Rattle.writer.specs.Nodes.{nodeIs};
 ghost use Rattle.writer.specs.Pen.{Wrote, Room, Moved};
 ghost use Rattle.writer.specs.Remains.{Remains};
-ghost use Rattle.equality.specs.Collecting.{product, collectedBy, laterBits};
+ghost use Rattle.equality.specs.Collecting.{productAt, collectedBy, laterBits};
 ghost use Rattle.equality.specs.Slots.{equalityCondition, equalitySegment};
 
 // The power at the first set bit of t, and the bits of t above it.
@@ -55,7 +55,7 @@ fn put_squares(table: &mut [u8], pen: Pen, z: u16, t: u16) -> Squared
 // At a set bit the product of the collected power and the running one; at another the collected power as it is.
 fn collect(table: &mut [u8], pen: Pen, set: bool, collected: Node, running: Node) -> Written
     requires { ⌜ Room (now table) pen (bit set) × (collected .depth < mostGates) × (running .depth < mostGates) ⌝ }
-    ensures wrote { λ r. ⌜ Wrote (now (table .entry)) pen (product set (collected .gate) (running .gate)) (now (table .exit)) (r .pen) ⌝ }
+    ensures wrote { λ r. ⌜ Wrote (now (table .entry)) pen (productAt set (collected .gate) (running .gate)) (now (table .exit)) (r .pen) ⌝ }
     ensures moves { λ r. ⌜ Moved pen (bit set) (r .pen) ⌝ }
     ensures deepens { λ r. ⌜ nodeIs (r .node) ≡ collectedBy set (pen .next) (nodeIs collected) (nodeIs running) ⌝ }
 {

@@ -9,7 +9,7 @@ use native.Mathlib.Omega.{arith}
 use native.Mathlib.Nat.{le-antisymm, le-trans, le-refl, le-of-lt, lt-of-not-le, pow-succ', mul-pos}
 use lib.Dec.{T, leb, leb→le, nleb→lt}
 use lib.Pow.{pow-pos}
-use Rattle.field.specs.Logarithm.{flogIn, flog, clogIn, clog}
+use Rattle.field.specs.Logarithm.{flogIn, flog, clogIn, clog, ClogIsCeiling, FlogIsFloor}
 
 lt-pow-self : (n : ℕ) → n < 2 ^ n
 lt-pow-self zero = omega arith
@@ -31,28 +31,28 @@ clogIn-iff zero n d h = (λ k. zero-le, λ k. omega (arith, pow-pos d))
 clogIn-iff (suc most) n d h =
     clog-step n (clogIn most ((n + 1) / 2)) (λ e. clogIn-iff most ((n + 1) / 2) e (omega arith)) (leb n 1) (leb→le n 1) (nleb→lt n 1) d
 
-pub clog-iff : (n d : ℕ) → (n ≤ 2 ^ d) ↔ (clog n ≤ d)
+pub clog-is-ceiling : ClogIsCeiling
 unfolding clog
-clog-iff n d = clogIn-iff n n d (le-of-lt (lt-pow-self n))
+clog-is-ceiling n d = clogIn-iff n n d (le-of-lt (lt-pow-self n))
 
 -- whatever has the law is clog
 pub clog-unique : (n c : ℕ) → ((d : ℕ) → (n ≤ 2 ^ d) ↔ (c ≤ d)) → c ≡ clog n
 clog-unique n c law =
-    le-antisymm (law (clog n) .0 (clog-iff n (clog n) .1 (le-refl _))) (clog-iff n c .0 (law c .1 (le-refl _)))
+    le-antisymm (law (clog n) .0 (clog-is-ceiling n (clog n) .1 (le-refl _))) (clog-is-ceiling n c .0 (law c .1 (le-refl _)))
 
 pub clog-small : (n : ℕ) → n ≤ 1 → clog n ≡ 0
-clog-small n h = omega (arith, clog-iff n 0 .0 (omega arith))
+clog-small n h = omega (arith, clog-is-ceiling n 0 .0 (omega arith))
 
 pub clog-half : (n : ℕ) → 2 ≤ n → clog n ≡ suc (clog ((n + 1) / 2))
 clog-half n h =
-    sym (clog-unique n _ (λ d. clog-step n (clog ((n + 1) / 2)) (clog-iff ((n + 1) / 2)) false (λ t. absurd t) (λ t. h) d))
+    sym (clog-unique n _ (λ d. clog-step n (clog ((n + 1) / 2)) (clog-is-ceiling ((n + 1) / 2)) false (λ t. absurd t) (λ t. h) d))
 
 pub clog-mono : {m n : ℕ} → m ≤ n → clog m ≤ clog n
-clog-mono {m} {n} h = clog-iff m (clog n) .0 (le-trans h (clog-iff n (clog n) .1 (le-refl _)))
+clog-mono {m} {n} h = clog-is-ceiling m (clog n) .0 (le-trans h (clog-is-ceiling n (clog n) .1 (le-refl _)))
 
 -- above one power of two, and at most the next
 pub clog-between : (n j : ℕ) → 2 ^ j < n → n ≤ 2 ^ suc j → clog n ≡ suc j
-clog-between n j l h = le-antisymm (clog-iff n (suc j) .0 h) (lt-of-not-le (λ c. omega (arith, clog-iff n j .1 c)))
+clog-between n j l h = le-antisymm (clog-is-ceiling n (suc j) .0 h) (lt-of-not-le (λ c. omega (arith, clog-is-ceiling n j .1 c)))
 
 -- of a power of two
 pub clog-power : (j : ℕ) → clog (2 ^ j) ≡ j
@@ -88,14 +88,14 @@ flogIn-iff zero n (suc d) p h = (λ k. omega (arith, pow-pos d), λ k. omega ari
 flogIn-iff (suc most) n d p h =
     flog-step n (flogIn most (n / 2)) p (λ l e. flogIn-iff most (n / 2) e (omega arith) (omega arith)) (leb n 1) (leb→le n 1) (nleb→lt n 1) d
 
-pub flog-iff : (n d : ℕ) → 0 < n → (2 ^ d ≤ n) ↔ (d ≤ flog n)
+pub flog-is-floor : FlogIsFloor
 unfolding flog
-flog-iff n d p = flogIn-iff n n d p (omega (arith, lt-pow-self n))
+flog-is-floor n d p = flogIn-iff n n d p (omega (arith, lt-pow-self n))
 
 -- whatever has the law is flog
 pub flog-unique : (n f : ℕ) → 0 < n → ((d : ℕ) → (2 ^ d ≤ n) ↔ (d ≤ f)) → f ≡ flog n
 flog-unique n f p law =
-    le-antisymm (flog-iff n f p .0 (law f .1 (le-refl _))) (law (flog n) .0 (flog-iff n (flog n) p .1 (le-refl _)))
+    le-antisymm (flog-is-floor n f p .0 (law f .1 (le-refl _))) (law (flog n) .0 (flog-is-floor n (flog n) p .1 (le-refl _)))
 
 pub flog-small : (n : ℕ) → n ≤ 1 → flog n ≡ 0
 unfolding flog flogIn
@@ -106,7 +106,7 @@ flog-small (suc (suc n)) h = absurd (omega arith)
 pub flog-half : (n : ℕ) → 2 ≤ n → flog n ≡ suc (flog (n / 2))
 flog-half n h =
     sym (flog-unique n _ (omega arith) (λ d.
-    flog-step n (flog (n / 2)) (omega arith) (λ l e. flog-iff (n / 2) e (omega arith)) false (λ t. absurd t) (λ t. h) d))
+    flog-step n (flog (n / 2)) (omega arith) (λ l e. flog-is-floor (n / 2) e (omega arith)) false (λ t. absurd t) (λ t. h) d))
 
 pub flog-less : (n : ℕ) → 1 ≤ n → flog n < n
-flog-less n some = omega (arith, lt-pow-self (flog n), flog-iff n (flog n) some .1 (le-refl _))
+flog-less n some = omega (arith, lt-pow-self (flog n), flog-is-floor n (flog n) some .1 (le-refl _))

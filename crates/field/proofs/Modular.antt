@@ -80,9 +80,6 @@ opposite-squares p a b h =
 pub minus-add : (p x : ℕ) → 0 < p → ((p - 1) * x + x) % p ≡ 0
 minus-add (suc m) x h = simp sub-one (mod-of (suc m) 0 x _ 0 (omega arith) ∙ zero-mod (suc m))
 
-pub minus-minus : (p x : ℕ) → 0 < p → ((p - 1) * ((p - 1) * x)) % p ≡ x % p
-minus-minus (suc m) x h = simp sub-one (mod-of (suc m) x (m * x) _ _ (omega arith))
-
 pub minus-product : (p a b : ℕ) → b ≤ p → 0 < p → (a + (p - b)) % p ≡ (a + (p - 1) * b) % p
 minus-product (suc m) a b l h = simp sub-one (mod-of (suc m) b 1 _ _ (omega arith))
 

@@ -9,7 +9,7 @@ use native.Mathlib.Nat.{mod-eq-of-lt, mul-mod-right, pow-succ', zero-mul}
 use native.Mathlib.Decide.{ℕ-discrete}
 use Rattle.field.specs.Sum.{sum}
 use Rattle.field.specs.Primes.{Prime}
-use Rattle.field.specs.Promises.{PowerSum}
+use Rattle.field.specs.PowerSum.{PowerSum}
 use Rattle.field.proofs.Modular.{mod-same, mul-none, none-add}
 use Rattle.field.proofs.Sum.{sum-same, sum-mul, sum-swap, sum-none}
 use Rattle.field.proofs.Binomial.{choose, choose-but-one, binomial-last}

@@ -13,7 +13,7 @@ use borrow.Author.Tests.{eqb-true, eqb-false, eq-eqb, ne-eqb, not-true}
 use lib.Dec.{eqb}
 use lib.ListN.{length, getD}
 use Rattle.field.proofs.Tests.{both}
-use Rattle.field.specs.Primes.{Prime, OddPrime, noDivisor, keep, primesFrom, primes, member, listed}
+use Rattle.field.specs.Primes.{Prime, OddPrime, noDivisor, keep, primesFrom, primes, member, listed, ListedIsOddPrime, PrimesAscend, FiftyThreePrimes}
 
 -- ---- trial division
 
@@ -118,19 +118,18 @@ ascend (suc n) d i j l h = go (noDivisor (d - 2) 2 d) i j l h (ascend n (suc d))
 
 -- ---- the list of the rules
 
--- "the 53"
-pub length-primes : length primes ≡ 53
+pub fifty-three-primes : FiftyThreePrimes
 unfolding primes
-length-primes = refl
+fifty-three-primes = refl
 
-pub primes-ascend : (i j : ℕ) → i < j → j < 53 → getD primes i 0 < getD primes j 0
+pub primes-ascend : PrimesAscend
 unfolding primes
-primes-ascend i j l h = ascend 249 3 i j l (rw length-primes h)
+primes-ascend i j l h = ascend 249 3 i j l h
 
 -- prime and complete: what is listed is an odd prime from 3 to 251, and each of these is listed
-pub listed-iff : (p : ℕ) → (listed p ≡ true) ↔ OddPrime p
+pub listed-is-odd-prime : ListedIsOddPrime
 unfolding listed primes
-listed-iff p = (sound, λ o. prime-entry 249 3 p (omega arith) (o .prime) (o .low) (omega (arith, o .high)))
+listed-is-odd-prime p = (sound, λ o. prime-entry 249 3 p (omega arith) (o .prime) (o .low) (omega (arith, o .high)))
   where
     sound : listed p ≡ true → OddPrime p
     sound t =

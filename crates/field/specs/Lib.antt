@@ -1,4 +1,5 @@
 -- To be believed by a reader of the promises: primes, arithmetic modulo p, logarithms and sums, and the two polynomials that test a digit.
+-- `PowerSum` stands apart: no promise rests on it.
 pub mod Primes
 pub mod Modular
 pub mod Logarithm
@@ -6,3 +7,4 @@ pub mod Sum
 pub mod Bit
 pub mod Polynomials
 pub mod Promises
+pub mod PowerSum

@@ -3,8 +3,9 @@ use Prim.Native.Nat.{ℕ, zero, suc, _-_, _%_, _≤_, _<_}
 use mathlib.Core.Bool.{Bool, true, false, not, _&&_, _||_}
 use mathlib.Core.List.{List, [], _∷_}
 use mathlib.Core.Path.{_≡_}
-use mathlib.Core.Logic.{_≢_}
+use mathlib.Core.Logic.{_≢_, _↔_}
 use lib.Dec.{eqb}
+use lib.ListN.{length, getD}
 
 -- a prime in the usual sense: at least 2, and no divisor from 2 to p - 1
 pub record Prime (p : ℕ) : Type 0 where
@@ -47,3 +48,16 @@ pub record OddPrime (p : ℕ) : Type 0 where
   pub odd : p % 2 ≡ 1
   pub low : 3 ≤ p
   pub high : p ≤ 251
+
+-- ---- the rule of the list: "prime, ascending, complete" (document 01, "Our forms for each place"); proved in `proofs/Primes.antt`
+
+-- what is listed is an odd prime from 3 to 251, and each of these is listed
+abbrev pub ListedIsOddPrime : Type 0
+ListedIsOddPrime = (p : ℕ) → (listed p ≡ true) ↔ OddPrime p
+
+abbrev pub PrimesAscend : Type 0
+PrimesAscend = (i j : ℕ) → i < j → j < length primes → getD primes i 0 < getD primes j 0
+
+-- "the 53"
+abbrev pub FiftyThreePrimes : Type 0
+FiftyThreePrimes = length primes ≡ 53

@@ -1,12 +1,11 @@
 -- Why a digit test is right over every odd prime: what is proved of the field and of the two polynomials, with p as a parameter.
--- Congruence is equality of remainders. Proved in `proofs/Euclid.antt`, `proofs/Fermat.antt`, `proofs/PowerSum.antt` and `proofs/Polynomials.antt`.
+-- Congruence is equality of remainders. Proved in `proofs/Euclid.antt`, `proofs/Fermat.antt` and `proofs/Polynomials.antt`.
 use mathlib.Core.Path.{_≡_}
 use mathlib.Core.Logic.{_≢_, _⊎_}
-use Prim.Native.Nat.{ℕ, suc, _-_, _*_, _/_, _%_, _^_, _<_}
+use Prim.Native.Nat.{ℕ, _-_, _*_, _/_, _%_, _^_, _<_}
 use lib.Dec.{ltb, eqb}
 use Rattle.field.specs.Bit.{bit}
 use Rattle.field.specs.Primes.{Prime}
-use Rattle.field.specs.Sum.{sum}
 use Rattle.field.specs.Polynomials.{zeroTest, orderPolynomial}
 
 -- Euclid's lemma: a prime that divides a product divides a factor
@@ -28,10 +27,6 @@ FermatOne = (p z : ℕ) → Prime p → z % p ≢ 0 → (z ^ (p - 1)) % p ≡ 1
 -- but at 0 it is 0, not 1
 abbrev pub FermatZero : Type 0
 FermatZero = (p : ℕ) → Prime p → 0 ^ (p - 1) ≡ 0
-
--- the sum of x^k over x < p is 0 modulo p for every k < p - 1
-abbrev pub PowerSum : Type 0
-PowerSum = (p k : ℕ) → Prime p → suc k < p → sum p (λ x. x ^ k) % p ≡ 0
 
 -- 1 - z^(p-1) is 1 at z = 0, and 0 elsewhere below p
 abbrev pub ZeroTest : Type 0

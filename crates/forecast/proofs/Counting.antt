@@ -7,9 +7,9 @@ use Prim.Native.Nat.{ℕ, suc, _+_, _*_, _/_, _%_, _^_, _≤_, _<_}
 use native.Mathlib.Omega.{arith}
 use native.Mathlib.Nat.{add-zero, le-antisymm, lt-of-not-le, mul-le-mul-left}
 use Rattle.field.specs.Logarithm.{clog}
-use Rattle.field.proofs.Logarithm.{clog-iff}
+use Rattle.field.proofs.Logarithm.{clog-is-ceiling}
 use Rattle.digits.specs.Number.{mostDigits}
-use Rattle.comparison.specs.Bits.{bits, set, ones}
+use Rattle.comparison.specs.Bits.{bits, setBits, ones}
 use Rattle.comparison.specs.Condition.{Condition}
 use Rattle.comparison.specs.Formulas.{gatesBeforeFlip, productsOf, squaresOf, conditionSize, conditionProducts, conditionSquares}
 use Rattle.comparison.specs.Relation.{Relation, isOrder, isFlipped}
@@ -25,7 +25,7 @@ ones-none = refl
 
 -- bit 0, and the bits of the half
 pub ones-half : (t : ℕ) → 0 < t → ones t ≡ t % 2 + ones (t / 2)
-unfolding ones set worth
+unfolding ones setBits worth
 ones-half t h =
     let cons = bits-cons t h in
     let whole : worth (bits t) ≡ t = bits-worth t in
@@ -48,14 +48,14 @@ pub doubles-next : (n power : ℕ) → n ≤ mostDigits → power < n → Double
 doubles-next n power few less d = record {
   exponent = suc (d .exponent);
   power-is = omega (arith, d .power-is);
-  low = lt-of-not-le (λ c. omega (arith, clog-iff n (d .exponent) .1 c, d .power-is));
+  low = lt-of-not-le (λ c. omega (arith, clog-is-ceiling n (d .exponent) .1 c, d .power-is));
   some = omega (arith, d .some);
   small = omega arith;
 }
 
 pub doubles-end : (n power : ℕ) → n ≤ power → Doubles n power → power ≡ 2 ^ clog n
 doubles-end n power most d =
-    d .power-is ∙ ap (λ (k : ℕ). 2 ^ k) (le-antisymm (d .low) (clog-iff n (d .exponent) .0 (omega (arith, d .power-is))))
+    d .power-is ∙ ap (λ (k : ℕ). 2 ^ k) (le-antisymm (d .low) (clog-is-ceiling n (d .exponent) .0 (omega (arith, d .power-is))))
 
 -- ---- the counts of a condition
 

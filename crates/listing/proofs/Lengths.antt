@@ -12,7 +12,7 @@ use Rattle.answer.specs.Outcome.{Answer, refused, accepted, refuse, onAnswer, n
 use Rattle.answer.specs.Report.{Report}
 use Rattle.answer.proofs.Outcome.{refused≢accepted}
 use Rattle.field.specs.Primes.{listed}
-use Rattle.field.proofs.Primes.{listed-iff}
+use Rattle.field.proofs.Primes.{listed-is-odd-prime}
 use Rattle.field.proofs.Tests.{in-range}
 use Rattle.digits.specs.Number.{mostDigits, wrongCount}
 use Rattle.circuit.specs.Bytes.{byte, wrongMark}
@@ -92,7 +92,7 @@ table-short : (table : Table) → wellFormed table ≡ true → length (tableLis
 table-short table t =
     let w = well-formed table t in
     let head = table .head in
-    let prime : head .prime ≤ 251 = listed-iff (head .prime) .0 (w .prime) .high in
+    let prime : head .prime ≤ 251 = listed-is-odd-prime (head .prime) .0 (w .prime) .high in
     let slots = in-range (head .slots) 1 mostDigits (w .slots) in
     let count = in-range (length (table .gates)) 1 mostGates (w .count) in
     let told = summary-short (report table) (report-bounds (tableBytes table ++ []) (report table) (checks-tables table [] t)) in

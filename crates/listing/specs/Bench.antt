@@ -2,13 +2,10 @@
 use mathlib.Core.Path.{_≡_}
 use Prim.Native.Nat.{ℕ}
 use mathlib.Core.List.{List, [], _∷_, _++_}
+use Rattle.query.specs.Bench.{firstCard}
 use Rattle.listing.specs.Listing.{listing}
 
--- "Card C5 48 03 4B 01 00 C5 51 01 01"
-abbrev pub firstCard : List ℕ
-firstCard = 0xC5 ∷ 0x48 ∷ 0x03 ∷ 0x4B ∷ 0x01 ∷ 0x00 ∷ 0xC5 ∷ 0x51 ∷ 0x01 ∷ 0x01 ∷ []
-
--- "gives all of:"
+-- "Card C5 48 03 4B 01 00 C5 51 01 01 gives all of:"
 abbrev pub firstListing : List ℕ
 firstListing =
     -- gates 7 products 0 squares 1 cost 75 depth 1

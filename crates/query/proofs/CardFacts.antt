@@ -12,7 +12,7 @@ use lib.ListN.{length}
 use Rattle.answer.specs.Outcome.{accepted}
 use Rattle.field.specs.Primes.{OddPrime, listed}
 use Rattle.field.specs.Sum.{total}
-use Rattle.field.proofs.Primes.{listed-iff}
+use Rattle.field.proofs.Primes.{listed-is-odd-prime}
 use Rattle.field.proofs.Tests.{in-range}
 use Rattle.digits.specs.Number.{mostDigits}
 use Rattle.circuit.specs.Every.{Every}
@@ -54,7 +54,7 @@ accepted-keeps : (card : Card) → Keeps card → Accepted card
 accepted-keeps card k =
     let count = in-range (length (card .conditions)) 1 mostConditions (k .count) in
     record {
-      prime = listed-iff (card .prime) .0 (k .prime);
+      prime = listed-is-odd-prime (card .prime) .0 (k .prime);
       listed = k .prime;
       weight = in-range (card .weight) 50 100 (k .weight);
       weightTest = k .weight;

@@ -4,14 +4,14 @@
 -- Assumes nothing.
 use mathlib.Core.Path.{_≡_, refl, sym, ap, _∙_}
 use mathlib.Core.Bool.{Bool, true}
-use mathlib.Core.List.{List, map, map-map}
+use mathlib.Core.List.{List, [], map, map-map, append-nil}
 use Prim.Native.Nat.{ℕ, suc, _-_, _*_, _%_, _^_, _≤_, _<_}
 use native.Mathlib.Omega.{arith}
 use native.Mathlib.Nat.{le-refl, zero-add, mod-eq-of-lt}
 use borrow.Author.Tests.{ltb-false}
 use lib.Dec.{ltb}
 use lib.ListN.{length, length-append, drop}
-use Rattle.answer.specs.Outcome.{accepted, Outcome, unaltered}
+use Rattle.answer.specs.Outcome.{Answer, accepted, Outcome, unaltered}
 use Rattle.answer.specs.Report.{Report}
 use Rattle.answer.proofs.Outcome.{passed, accepted-same}
 use Rattle.field.specs.Bit.{bit}
@@ -25,13 +25,13 @@ use Rattle.digits.proofs.Number.{below-at, below-weaken}
 use Rattle.circuit.specs.Count.{count, isProduct, isSquare, products, squares, cost}
 use Rattle.circuit.specs.Depth.{depths, depth}
 use Rattle.circuit.specs.Every.{Every}
-use Rattle.circuit.specs.Factors.{InOrder, breadth, product}
+use Rattle.circuit.specs.Factors.{InOrder, breadth, listProduct}
 use Rattle.circuit.specs.Gate.{Gate}
 use Rattle.circuit.specs.Meaning.{entries, entryAt, output}
-use Rattle.circuit.specs.ProductTree.{productTree}
+use Rattle.circuit.specs.Outcomes.{running}
 use Rattle.circuit.specs.Report.{report}
 use Rattle.circuit.specs.Segment.{Node, Segment}
-use Rattle.circuit.specs.Table.{Head, Table, allFit, wellFormed, mostGates}
+use Rattle.circuit.specs.Table.{Head, Table, tableBytes, allFit, wellFormed, mostGates}
 use Rattle.circuit.specs.Value.{values}
 use Rattle.circuit.proofs.Bounds.{values-below}
 use Rattle.circuit.proofs.Count.{count-append, all-counted}
@@ -49,13 +49,13 @@ use Rattle.query.specs.Card.{Card, slotsOf}
 use Rattle.query.specs.Formulas.{overConditions, gateCount, depthFormula, productCount, squareCount, costSum}
 use Rattle.query.specs.Holds.{allHold}
 use Rattle.query.specs.Outcomes.{tableRoom}
-use Rattle.query.specs.Promises.{gatesOf, RightAnswer, ExactDepth, outputGates, NoShallowerTree, BoundedCost, ExactCost, ExactCounts, ExactSize, SameReport, ReportedNumbers, TrimsToTable, RunsTheTable, RightRun, Built, BuildsWithRoom, BuiltValue, BuiltDepth, BuiltCost}
+use Rattle.query.specs.Promises.{gatesOf, RightAnswer, ExactDepth, outputGates, OutputsAreLast, CardOutput, NoShallowerTree, BoundedCost, ExactCost, ExactCounts, ExactSize, SameReport, ReportedNumbers, TrimsToTable, RunsTheTable, RightRun, BuiltRun, Built, BuildsWithRoom, BuiltValue, BuiltDepth, BuiltCost}
 use Rattle.query.specs.Reading.{readCard}
-use Rattle.query.specs.Whole.{Draft, begin, filled, tableOf}
+use Rattle.query.specs.Whole.{Draft, begin, treeOf, filled, tableOf}
 use Rattle.query.proofs.Building.{built}
 use Rattle.query.proofs.CardFacts.{Accepted, accepted-card}
 use Rattle.query.proofs.OverConditions.{over-mono, over-times, over-cost, over-some, size-within}
-use Rattle.query.proofs.Whole.{Good, Sound, outputs-kept, all-sound, all-length, all-outputs, all-counts, all-breadth, all-value}
+use Rattle.query.proofs.Whole.{Good, Sound, outputs-kept, all-sound, all-length, all-outputs, all-last, all-counts, all-breadth, all-value}
 
 -- ---- the draft and the tree of an accepted card
 
@@ -92,7 +92,7 @@ module _ (bytes : List ℕ) (card : Card) (e : readCard bytes ≡ accepted card)
   k = length (draft .gates)
 
   abbrev tree : Segment
-  tree = productTree k (draft .outputs)
+  tree = treeOf draft
 
   abbrev gates : List Gate
   gates = gatesOf card
@@ -208,8 +208,8 @@ module _ (bytes : List ℕ) (card : Card) (e : readCard bytes ≡ accepted card)
     answer = allHold (base p) left right (card .conditions)
 
     -- the outputs' product is the answer's bit
-    product-is : product (map (λ (f : Node). entryAt (values p left right) (draft .gates) (f .gate)) (draft .outputs)) ≡ bit answer
-    unfolding product
+    product-is : listProduct (map (λ (f : Node). entryAt (values p left right) (draft .gates) (f .gate)) (draft .outputs)) ≡ bit answer
+    unfolding listProduct
     product-is =
         all-value head three odd (known .prime .prime) left right (omega arith) (omega arith) hl hr
         begin (card .conditions) begin-sound good
@@ -239,11 +239,15 @@ right-answer bytes left right card e l r = right-value bytes card e left right (
 pub exact-depth : ExactDepth
 exact-depth bytes card e = formula-depth bytes card e
 
--- the node of the product tree tells the depth of the table
-pub output-tells : (bytes : List ℕ) (card : Card) → readCard bytes ≡ accepted card
-    → productTree (length (filled card .gates)) (filled card .outputs) .output .depth ≡ depth (gatesOf card)
-output-tells bytes card e =
-    tree-depth (length (filled card .gates)) (filled card .outputs) (some bytes card e) ∙ sym (depth-is bytes card e)
+pub outputs-are-last : OutputsAreLast
+outputs-are-last bytes card e =
+    all-last (tableOf card .head) (three bytes card e) (odd bytes card e) begin (card .conditions) (good bytes card e)
+
+pub card-output : CardOutput
+card-output bytes card e = (
+  output-last bytes card e,
+  tree-depth (length (filled card .gates)) (filled card .outputs) (some bytes card e) ∙ sym (depth-is bytes card e),
+)
 
 pub no-shallower-tree : NoShallowerTree
 no-shallower-tree bytes card tree e same =
@@ -287,19 +291,27 @@ trims-to-table bytes lent card e room =
     let table = tableOf card in rw (built bytes lent card e room) (trims-tables table (drop (tableRoom table) lent) (formed bytes card e))
 
 pub runs-the-table : RunsTheTable
-runs-the-table bytes lent left right work card e room l r hl hr enough =
-    let table = tableOf card in
-    let ran = run-accepts table (drop (tableRoom table) lent) left right work (formed bytes card e) l r hl hr enough in
-    rw (built bytes lent card e room, ran)
+runs-the-table bytes later left right work card e l r hl hr enough =
+    ap (λ (o : Outcome ℕ). o .answer) (run-accepts (tableOf card) later left right work (formed bytes card e) l r hl hr enough)
 
 pub right-run : RightRun
-right-run bytes lent left right work card e room l r enough =
+right-run bytes later left right work card e l r enough =
     let p = card .prime in
     let low : base p ≤ p = omega (arith, three bytes card e) in
     let hl = below-weaken (base p) p left low (l .1) in
     let hr = below-weaken (base p) p right low (r .1) in
-    runs-the-table bytes lent left right work card e room (l .0) (r .0) hl hr enough
+    runs-the-table bytes later left right work card e (l .0) (r .0) hl hr enough
     ∙ ap accepted (right-answer bytes left right card e l r)
+
+-- what Trim hands back is the table's bytes, and nothing stands after them
+pub built-run : BuiltRun
+built-run bytes lent left right work card e room l r enough =
+    let table = tableOf card in
+    let answer : List ℕ → Answer ℕ = λ given. running given left right work .answer in (
+      rw (built bytes lent card e room) (right-run bytes (drop (tableRoom table) lent) left right work card e l r enough),
+      ap answer (trims-to-table bytes lent card e room ∙ sym (append-nil (tableBytes table)))
+          ∙ right-run bytes [] left right work card e l r enough,
+    )
 
 -- ---- Build's outcome
 

@@ -1,9 +1,9 @@
 -- Conditions added one after the other to a draft: what a sound draft keeps (`Sound`), and how gates, outputs, cost and values grow.
 -- By induction on the conditions; each step is a promise of one condition.
 -- Assumes nothing.
-use mathlib.Core.Path.{_≡_, ap, ap₂, _∙_}
+use mathlib.Core.Path.{_≡_, sym, ap, ap₂, _∙_}
 use mathlib.Core.Bool.{true}
-use mathlib.Core.List.{List, [], _∷_, _++_, map, map-append}
+use mathlib.Core.List.{List, [], _∷_, _++_, map, map-append, append-assoc, append-nil}
 use Prim.Native.Nat.{ℕ, suc, _+_, _-_, _*_, _%_, _^_, _≤_}
 use native.Mathlib.Omega.{arith}
 use native.Mathlib.Nat.{zero-add, mul-comm}
@@ -18,7 +18,7 @@ use Rattle.digits.specs.Number.{base, allBelow}
 use Rattle.circuit.specs.Count.{isProduct, isSquare, count}
 use Rattle.circuit.specs.Depth.{depths}
 use Rattle.circuit.specs.Every.{Every}
-use Rattle.circuit.specs.Factors.{InOrder, breadth, product}
+use Rattle.circuit.specs.Factors.{InOrder, breadth, listProduct}
 use Rattle.circuit.specs.Gate.{Gate}
 use Rattle.circuit.specs.Meaning.{Algebra, entryAt}
 use Rattle.circuit.specs.Segment.{Node}
@@ -35,7 +35,7 @@ use Rattle.comparison.specs.Condition.{Condition, holds}
 use Rattle.comparison.specs.Formulas.{conditionSize, conditionProducts, conditionSquares}
 use Rattle.comparison.specs.Writing.{conditionSegment}
 use Rattle.comparison.proofs.Condition.{output-is-last, condition-sized, condition-some, condition-fits, condition-counts, condition-holds, condition-depth}
-use Rattle.query.specs.Formulas.{overConditions}
+use Rattle.query.specs.Formulas.{overConditions, lastGates}
 use Rattle.query.specs.Holds.{allHold}
 use Rattle.query.specs.Whole.{Draft, add, addAll}
 
@@ -111,6 +111,22 @@ module _ (head : Head) (three : 3 ≤ head .prime) (odd : head .prime % 2 ≡ 1)
       let written = conditionSegment p c (length (draft .gates)) in
       omega (arith, all-outputs (add p draft c) cs, length-append (draft .outputs) (written .output ∷ []))
 
+  pub all-last : (draft : Draft) (cs : List Condition) → Every (Good head) cs
+      → map (λ (f : Node). f .gate) (addAll p draft cs .outputs)
+      ≡ map (λ (f : Node). f .gate) (draft .outputs) ++ lastGates p (length (draft .gates)) cs
+  unfolding addAll lastGates
+  all-last draft [] good = sym (append-nil _)
+  all-last draft (c ∷ cs) good =
+      let gate : Node → ℕ = λ f. f .gate in
+      let k = length (draft .gates) in
+      let written = conditionSegment p c k in
+      let size = condition-sized p k c three odd (good .0 .0) in
+      let end : length (draft .gates ++ written .gates) ≡ k + conditionSize p c = length-append (draft .gates) (written .gates) ∙ omega arith in
+      let last : written .output .gate ≡ k + conditionSize p c - 1 = omega (arith, output-is-last p k c three odd (good .0 .0)) in
+      all-last (add p draft c) cs (good .1)
+      ∙ rw (map-append gate (draft .outputs) (written .output ∷ []), end, last)
+      (append-assoc (map gate (draft .outputs)) ((k + conditionSize p c - 1) ∷ []) (lastGates p (k + conditionSize p c) cs))
+
   pub all-counts : (draft : Draft) (cs : List Condition) → Every (Good head) cs
       → (count isProduct (addAll p draft cs .gates) ≡ count isProduct (draft .gates) + overConditions (conditionProducts p) cs)
       × (count isSquare (addAll p draft cs .gates) ≡ count isSquare (draft .gates) + overConditions (conditionSquares p) cs)
@@ -147,11 +163,11 @@ module _ (head : Head) (three : 3 ≤ head .prime) (odd : head .prime % 2 ≡ 1)
       (hl : allBelow (base p) left ≡ true) (hr : allBelow (base p) right ≡ true) where
     -- the product of the outputs' values
     abbrev pub valueOf : Draft → ℕ
-    valueOf draft = product (map (λ (f : Node). entryAt (values p left right) (draft .gates) (f .gate)) (draft .outputs))
+    valueOf draft = listProduct (map (λ (f : Node). entryAt (values p left right) (draft .gates) (f .gate)) (draft .outputs))
 
     add-value : (draft : Draft) (c : Condition) → Sound draft → Good head c
         → valueOf (add p draft c) ≡ valueOf draft * bit (holds (base p) left right c)
-    unfolding product
+    unfolding listProduct
     add-value draft c sound good =
         let alg = values p left right in
         let written = conditionSegment p c (length (draft .gates)) in
@@ -159,10 +175,10 @@ module _ (head : Head) (three : 3 ≤ head .prime) (odd : head .prime % 2 ≡ 1)
         let inLeft : c .left + c .digits ≤ length left = omega (arith, good .1) in
         let inRight : c .right + c .digits ≤ length right = omega (arith, good .2) in
         let here = condition-holds p left right (draft .gates) c prime three odd (good .0) inLeft inRight hl hr in
-        ap product (map-append new (draft .outputs) (written .output ∷ []))
+        ap listProduct (map-append new (draft .outputs) (written .output ∷ []))
         ∙ same-product (last-first (map new (draft .outputs)) (new (written .output)))
         ∙ mul-comm (new (written .output)) _
-        ∙ ap₂ _*_ (ap product (map-same _ _ (draft .outputs) (outputs-kept alg draft (written .gates) sound))) here
+        ∙ ap₂ _*_ (ap listProduct (map-same _ _ (draft .outputs) (outputs-kept alg draft (written .gates) sound))) here
 
     pub all-value : (draft : Draft) (cs : List Condition) → Sound draft → Every (Good head) cs
         → valueOf (addAll p draft cs) ≡ valueOf draft * bit (allHold (base p) left right cs)

@@ -1,6 +1,6 @@
 -- The formulas of a card: gates (document 01, "Whole card"), depth, products, squares and cost (demand 3).
 use Prim.Native.Nat.{ℕ, _+_, _-_, _*_, _^_}
-use mathlib.Core.List.{List, map}
+use mathlib.Core.List.{List, [], _∷_, map}
 use lib.ListN.{length}
 use Rattle.answer.specs.Report.{Report}
 use Rattle.field.specs.Logarithm.{clog}
@@ -20,6 +20,11 @@ conditionsLessOne card = length (card .conditions) - 1
 -- "Gates: .. plus c-1"
 abbrev pub gateCount : Card → ℕ
 gateCount card = overConditions (conditionSize (card .prime)) (card .conditions) + conditionsLessOne card
+
+-- the last gate of each condition, where the first of them is written from gate number k on
+unfoldable pub lastGates : ℕ → ℕ → List Condition → List ℕ
+lastGates p k [] = []
+lastGates p k (c ∷ cs) = (k + conditionSize p c - 1) ∷ lastGates p (k + conditionSize p c) cs
 
 -- "ceil(log2(p-1)) + ceil(log2(the sum over the conditions of 2^ceil(log2 n)))"
 abbrev pub depthFormula : Card → ℕ

@@ -8,3 +8,4 @@ pub mod Holds
 pub mod CardPromises
 pub mod BuildOrder
 pub mod Promises
+pub mod Bench

@@ -5,7 +5,7 @@
 use mathlib.Core.Path.{_≡_}
 use mathlib.Core.Bool.{true}
 use mathlib.Core.List.{List, _++_, map, List·Permᴰ}
-use Prim.Native.Nat.{ℕ, _≤_}
+use Prim.Native.Nat.{ℕ, suc, _≤_}
 use lib.ListN.{length}
 use Rattle.answer.specs.Outcome.{accepted}
 use Rattle.answer.specs.Report.{Report}
@@ -27,11 +27,11 @@ use Rattle.comparison.specs.Condition.{Condition}
 use Rattle.comparison.specs.Formulas.{conditionCost, costSummand}
 use Rattle.comparison.specs.Relation.{isOrder}
 use Rattle.query.specs.Card.{Card, slotsOf}
-use Rattle.query.specs.Formulas.{gateCount, depthFormula, productCount, squareCount, costSum, costBound, numbersOf}
+use Rattle.query.specs.Formulas.{gateCount, lastGates, depthFormula, productCount, squareCount, costSum, costBound, numbersOf}
 use Rattle.query.specs.Holds.{allHold}
 use Rattle.query.specs.Outcomes.{tableRoom, building, forecasting}
 use Rattle.query.specs.Reading.{readCard}
-use Rattle.query.specs.Whole.{filled, tableOf}
+use Rattle.query.specs.Whole.{treeOf, filled, tableOf}
 
 abbrev pub gatesOf : Card → List Gate
 gatesOf card = tableOf card .gates
@@ -51,9 +51,21 @@ RightAnswer =
 abbrev pub ExactDepth : Type 0
 ExactDepth = (bytes : List ℕ) (card : Card) → readCard bytes ≡ accepted card → depth (gatesOf card) ≡ depthFormula card
 
--- the condition outputs; that each is the last gate that its condition writes is `OutputIsLast` of comparison
+-- the condition outputs
 abbrev pub outputGates : Card → List ℕ
 outputGates card = map (λ (f : Node). f .gate) (filled card .outputs)
+
+-- "A condition's output is the last gate that it writes.": one condition's gates come after the other's
+abbrev pub OutputsAreLast : Type 0
+OutputsAreLast =
+    (bytes : List ℕ) (card : Card) → readCard bytes ≡ accepted card
+    → outputGates card ≡ lastGates (card .prime) 0 (card .conditions)
+
+-- the card's output, which the product tree over them leaves, is the table's last gate, and its node tells the table's depth
+abbrev pub CardOutput : Type 0
+CardOutput =
+    (bytes : List ℕ) (card : Card) → readCard bytes ≡ accepted card
+    → (suc (treeOf (filled card) .output .gate) ≡ length (gatesOf card)) × (treeOf (filled card) .output .depth ≡ depth (gatesOf card))
 
 -- c. "Every other tree of two-way products over the same condition outputs, each used once, is at least as deep as the table.":
 -- any tree whose leaves are all outputs, each once, in any order; a single output is as deep as its gate
@@ -111,21 +123,32 @@ TrimsToTable =
     (bytes lent : List ℕ) (card : Card) → readCard bytes ≡ accepted card → tableRoom (tableOf card) ≤ length lent
     → trimming (building bytes lent .lent) ≡ tableBytes (tableOf card)
 
--- "Run on that table, unaltered since, answers it unless 20 refuses.": the last gate's value, for all values below p
+-- "Run on that table, unaltered since, answers it unless 20 refuses.": on the table's bytes, whatever stands after them,
+-- the last gate's value, for all values below p
 abbrev pub RunsTheTable : Type 0
 RunsTheTable =
-    (bytes lent left right work : List ℕ) (card : Card) → readCard bytes ≡ accepted card → tableRoom (tableOf card) ≤ length lent
+    (bytes later left right work : List ℕ) (card : Card) → readCard bytes ≡ accepted card
     → length left ≡ slotsOf (card .conditions) → length right ≡ slotsOf (card .conditions)
     → allBelow (card .prime) left ≡ true → allBelow (card .prime) right ≡ true → length (gatesOf card) ≤ length work
-    → running (building bytes lent .lent) left right work .answer ≡ accepted (output (values (card .prime) left right) (gatesOf card))
+    → running (tableBytes (tableOf card) ++ later) left right work .answer
+    ≡ accepted (output (values (card .prime) left right) (gatesOf card))
 
--- so from the card's bytes to the answer: Build, then Run on what it left
+-- so with digits below (p+1)/2 it answers whether all conditions hold
 abbrev pub RightRun : Type 0
 RightRun =
+    (bytes later left right work : List ℕ) (card : Card) → readCard bytes ≡ accepted card
+    → Side card left → Side card right → length (gatesOf card) ≤ length work
+    → running (tableBytes (tableOf card) ++ later) left right work .answer
+    ≡ accepted (bit (allHold (base (card .prime)) left right (card .conditions)))
+
+-- from the card's bytes to the answer: Build, then Run on all that it left, or on the part of it that Trim hands back
+abbrev pub BuiltRun : Type 0
+BuiltRun =
     (bytes lent left right work : List ℕ) (card : Card) → readCard bytes ≡ accepted card → tableRoom (tableOf card) ≤ length lent
     → Side card left → Side card right → length (gatesOf card) ≤ length work
-    → running (building bytes lent .lent) left right work .answer
-    ≡ accepted (bit (allHold (base (card .prime)) left right (card .conditions)))
+    → let answer = accepted (bit (allHold (base (card .prime)) left right (card .conditions))) in
+    (running (building bytes lent .lent) left right work .answer ≡ answer)
+    × (running (trimming (building bytes lent .lent)) left right work .answer ≡ answer)
 
 -- Build's outcome on an accepted card, where it answers a report: that report, and the table in the bytes that it leaves.
 -- `build` answers and leaves this outcome, so these are promises about `build`

@@ -5,7 +5,7 @@ use mathlib.Core.List.{List, [], _∷_, _++_}
 use lib.ListN.{length}
 use Rattle.circuit.specs.Gate.{Gate}
 use Rattle.circuit.specs.ProductTree.{productTree}
-use Rattle.circuit.specs.Segment.{Node}
+use Rattle.circuit.specs.Segment.{Node, Segment}
 use Rattle.circuit.specs.Table.{Table}
 use Rattle.comparison.specs.Condition.{Condition}
 use Rattle.comparison.specs.Writing.{conditionSegment}
@@ -29,8 +29,12 @@ unfoldable pub addAll : ℕ → Draft → List Condition → Draft
 addAll p draft [] = draft
 addAll p draft (c ∷ cs) = addAll p (add p draft c) cs
 
+-- the product tree over the outputs, from the next free gate number on
+abbrev pub treeOf : Draft → Segment
+treeOf draft = productTree (length (draft .gates)) (draft .outputs)
+
 abbrev pub finish : Draft → List Gate
-finish draft = draft .gates ++ productTree (length (draft .gates)) (draft .outputs) .gates
+finish draft = draft .gates ++ treeOf draft .gates
 
 -- a card with all its conditions added
 abbrev pub filled : Card → Draft

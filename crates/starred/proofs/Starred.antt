@@ -1,7 +1,6 @@
 -- Every case of the table comes out as document 01 says, by computing the definitions.
 -- Assumes nothing.
-use mathlib.Core.Path.{_≡_, refl}
-use mathlib.Core.List.{map}
+use mathlib.Core.Path.{refl}
 use Rattle.field.specs.Logarithm.{clog, flog}
 use Rattle.field.specs.Modular.{residue}
 use Rattle.field.specs.Polynomials.{orderConstants}
@@ -21,8 +20,8 @@ use Rattle.comparison.specs.OrderDigit.{ascending, powerGate, laterTerms}
 use Rattle.comparison.specs.Writing.{equalityFactors, conditionSegment}
 use Rattle.query.specs.Reading.{readConditions}
 use Rattle.query.specs.Whole.{addAll}
-use Rattle.starred.specs.Starred.{Case, starred}
+use Rattle.starred.specs.Starred.{starred, StarredCases}
 
-pub starred-cases : map (λ (c : Case). c .given) starred ≡ map (λ (c : Case). c .said) starred
+pub starred-cases : StarredCases
 unfolding starred orderConstants listed member primes number sum allBelow digitsOf readConditions total addAll conditionSegment digitsFrom ascending powerGate laterTerms chain ones halves joinLowest equalityFactors multiply least flog clog counted count interpret gatesBytes readGates residue
 starred-cases = refl

@@ -1,6 +1,7 @@
 -- The cases that document 01 marks with *, as one table: what the definitions give, beside what the document says. Proved in `proofs/Starred.antt`.
 use Prim.Native.Nat.{ℕ}
-use mathlib.Core.List.{List, [], _∷_, _++_}
+use mathlib.Core.Path.{_≡_}
+use mathlib.Core.List.{List, [], _∷_, _++_, map}
 use lib.ListN.{replicate}
 use Rattle.answer.specs.Outcome.{Answer, refused, accepted, Outcome, onAnswer}
 use Rattle.answer.specs.Report.{Report}
@@ -8,6 +9,7 @@ use Rattle.field.specs.Polynomials.{orderConstants}
 use Rattle.digits.specs.Encoding.{encoding}
 use Rattle.digits.specs.Decoding.{decoding}
 use Rattle.circuit.specs.Outcomes.{running}
+use Rattle.query.specs.Bench.{firstCard}
 use Rattle.query.specs.Card.{Card}
 use Rattle.query.specs.Outcomes.{building, forecasting}
 use Rattle.query.specs.Reading.{readCard}
@@ -50,11 +52,7 @@ encode p n x =
 abbrev decode : ℕ → List ℕ → Told
 decode p digits = single (decoding p digits)
 
--- the first bench card
-abbrev first : List ℕ
-first = 0xC5 ∷ 0x48 ∷ 0x03 ∷ 0x4B ∷ 0x01 ∷ 0x00 ∷ 0xC5 ∷ 0x51 ∷ 0x01 ∷ 0x01 ∷ []
-
--- the bytes of its listing: the head, then "0 LEFT 0 0" to "6 ADD 4 5"
+-- the table of the first bench card, in the bytes of its listing: the head, then "0 LEFT 0 0" to "6 ADD 4 5"
 abbrev firstTable : List ℕ
 firstTable =
     (0x47 ∷ 0x48 ∷ 3 ∷ 75 ∷ 1 ∷ 0 ∷ 7 ∷ 0 ∷ [])
@@ -94,10 +92,10 @@ run left right = single (running (build (card 5 100 1 2) 208 .lent) left right (
 unfoldable pub starred : List Case
 starred =
     -- "That card: 64 bytes are enough, 63 gives 11.": the answer, then the bytes lent
-    row (counts (build first 64 .answer)) (accepted (7 ∷ 0 ∷ 1 ∷ 75 ∷ 1 ∷ []))
-    ∷ row (accepted (build first 64 .lent)) (accepted firstTable)
-    ∷ row (counts (build first 63 .answer)) (refused 11)
-    ∷ row (accepted (build first 63 .lent)) (accepted (replicate 63 9))
+    row (counts (build firstCard 64 .answer)) (accepted (7 ∷ 0 ∷ 1 ∷ 75 ∷ 1 ∷ []))
+    ∷ row (accepted (build firstCard 64 .lent)) (accepted firstTable)
+    ∷ row (counts (build firstCard 63 .answer)) (refused 11)
+    ∷ row (accepted (build firstCard 63 .lent)) (accepted (replicate 63 9))
     -- "p=7, s=50, one "=" of 1: G 7, products 1, squares 2, cost 200, depth 3."
     ∷ row (counts (forecasting (card 7 50 5 1))) (accepted (7 ∷ 1 ∷ 2 ∷ 200 ∷ 3 ∷ []))
     -- "p=5, s=100, "<" of 2: G 25, 3, 4, cost 700, depth 3; "<=" has G 26."
@@ -128,3 +126,7 @@ starred =
     ∷ row (turnedAway (card 3 75 1 17)) (refused 9)
     ∷ row (turnedAway (pair 3 75 1 8 1 9)) (refused 10)
     ∷ []
+
+-- every case comes out as document 01 says
+abbrev pub StarredCases : Type 0
+StarredCases = map (λ (c : Case). c .given) starred ≡ map (λ (c : Case). c .said) starred

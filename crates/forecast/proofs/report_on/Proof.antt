@@ -4,14 +4,14 @@ use Prim.Native.Nat.{_-_, _≤_}
 use native.Mathlib.Omega.{arith}
 use borrow.Author.Needs.{needs}
 use Rattle.field.specs.Logarithm.{clog}
-use Rattle.field.proofs.Logarithm.{clog-iff}
+use Rattle.field.proofs.Logarithm.{clog-is-ceiling}
 use Rattle.forecast.proofs.report_on.Statement.{statement}
 use Rattle.forecast.proofs.report_on.Tie as tie
 
 -- the two parts of the depth
 levels : (c : tie.Start) → (clog (c .args .head .prime - 1) ≤ 16) × (clog (c .args .totals .breadth) ≤ 16)
 levels c =
-    (clog-iff (c .args .head .prime - 1) 16 .0 (omega (arith, c .pre .0 .1)), clog-iff (c .args .totals .breadth) 16 .0 (omega (arith, c .pre .1 .3)))
+    (clog-is-ceiling (c .args .head .prime - 1) 16 .0 (omega (arith, c .pre .0 .1)), clog-is-ceiling (c .args .totals .breadth) 16 .0 (omega (arith, c .pre .1 .3)))
 
 sub-tree : tie.Need-sub-tree
 sub-tree c = search needs

@@ -7,7 +7,7 @@ use native.Mathlib.Omega.{arith}
 use borrow.Author.Needs.{needs}
 use borrow.Fn.Kinds.{In}
 use borrow.Fn.PlainCycle.{Measures, is, falls, and}
-use Rattle.field.proofs.Logarithm.{clog-iff, clog-small}
+use Rattle.field.proofs.Logarithm.{clog-is-ceiling, clog-small}
 use Rattle.joining.specs.Tests.{lessOf, equalOf}
 use Rattle.joining.proofs.Halving.{clog-join, joining-split}
 use Rattle.joining.proofs.Joins.{lowest-one, lowest-more}
@@ -97,7 +97,7 @@ module _ (t : ℕ) where
       let few : n ≤ 16 = omega (arith, start) in
       let l = low .join-digits .ensures in
       let h = high .join-run .ensures in
-      omega (arith, start, c .deeper .ensures, l .1 .1 .1, h .1 .1 .1 .1, clog-iff (n / 2) 4 .0 (omega arith), clog-iff (n - n / 2) 4 .0 (omega arith))
+      omega (arith, start, c .deeper .ensures, l .1 .1 .1, h .1 .1 .1 .1, clog-is-ceiling (n / 2) 4 .0 (omega arith), clog-is-ceiling (n - n / 2) 4 .0 (omega arith))
 
   same-length : lts.Need-same-length calls pre reads.Post
   same-length c = search needs

@@ -3,7 +3,7 @@
 use mathlib.Core.Path.{refl}
 use Prim.Native.Nat.{_-_}
 use native.Mathlib.Omega.{arith}
-use Rattle.field.proofs.Logarithm.{clog-iff}
+use Rattle.field.proofs.Logarithm.{clog-is-ceiling}
 use Rattle.order.proofs.Whole.{length-is, segment-wrote, output-is}
 use borrow.Author.Needs.{needs}
 use Rattle.order.proofs.put_order.Statement.{statement}
@@ -23,7 +23,7 @@ join-digits-requires c κs =
     let a = s .args in
     let e = d .put-order-digits .ensures in
     let size = length-is (a .p) (a .backward) (a .slots) (a .pen .next) _ (e .1 .0 .0) in
-    (omega (arith, s .pre .0, e .1 .1, clog-iff (a .p - 1) 8 .0 (omega arith)), omega (arith, size, s .pre .0, e .1 .0, d))
+    (omega (arith, s .pre .0, e .1 .1, clog-is-ceiling (a .p - 1) 8 .0 (omega arith)), omega (arith, size, s .pre .0, e .1 .0, d))
 
 same-length : tie.Need-same-length
 same-length c = search needs

@@ -6,7 +6,7 @@ use native.Mathlib.Omega.{arith}
 use native.Mathlib.Numerals.{add-one}
 use lib.ListN.{getD}
 use Rattle.field.specs.Logarithm.{clog}
-use Rattle.field.proofs.Logarithm.{clog-iff}
+use Rattle.field.proofs.Logarithm.{clog-is-ceiling}
 use Rattle.comparison.proofs.Powers.{power-deep}
 use Rattle.powers.proofs.Powers.{place-within, deep-step, deep-halves}
 use borrow.Author.Needs.{needs}
@@ -54,7 +54,7 @@ add-depth : tie.Need-add-depth
 add-depth c =
     let s = c .before .before .before .before in
     let i = s .args .i in
-    omega (arith, halves s, clog-iff (i / 2) 8 .0 (omega arith), clog-iff ((i + 1) / 2) 8 .0 (omega arith))
+    omega (arith, halves s, clog-is-ceiling (i / 2) 8 .0 (omega arith), clog-is-ceiling ((i + 1) / 2) 8 .0 (omega arith))
 
 power-place-requires : tie.Need-power-place-requires
 power-place-requires c κs = search needs
