@@ -8,11 +8,9 @@ ghost use Prim.Native.Nat.{_+_, _*_, _≤_};
 ghost use lib.ListN.{length, drop};
 ghost use lib.Seq.{sets};
 ghost use Rattle.answer.specs.Report.{reportOf};
-ghost use Rattle.circuit.specs.Table.{mostGates};
 ghost use Rattle.query.specs.Outcomes.{building};
 ghost use Rattle.listing.specs.Lines.{summaryLine, refusalLine};
 ghost use Rattle.listing.specs.Listing.{listing};
-ghost use Rattle.listing.specs.Promises.{mostListing};
 ghost use Rattle.text.specs.Putting.{Puts, Fits};
 ghost use Rattle.listing.specs.Records.{nameOf, recordLine, recordLines};
 
@@ -95,11 +93,12 @@ fn put_refusal(out: &mut [u8], at: usize, number: u8) -> usize
 }
 
 // Puts the listing of a card at the start of text and answers its length. The table is built in the
-// other lent bytes.
-pub fn list_card(card: &[u8], table: &mut [u8], text: &mut [u8]) -> usize
-    requires { ⌜ (8 * (mostGates + 1) ≤ length (now table)) × (mostListing ≤ length (now text)) ⌝ }
+// other array. Both arrays have room for every card, by their types, so nothing is asked of the
+// caller; and no listing is cut short.
+pub fn list_card(card: &[u8], table: &mut [u8; MOST_TABLE], text: &mut [u8; MOST_LISTING]) -> usize
     ensures puts { λ r. ⌜ now (text .exit) ≡ sets (now (text .entry)) 0 (listing (now (card .entry))) ⌝ }
     ensures ends { λ r. ⌜ r ≡ length (listing (now (card .entry))) ⌝ }
+    ensures fits { λ r. ⌜ r ≤ length (now (text .exit)) ⌝ }
     ensures leaves { λ r. ⌜ now (table .exit) ≡ building (now (card .entry)) (now (table .entry)) .lent ⌝ }
 {
     match builder::build(card, table) {
