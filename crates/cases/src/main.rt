@@ -57,7 +57,7 @@ fn put_named(name: &[u8], number: u64, place: usize, out: &mut [u8]) -> usize {
 
 fn put_hex_pair(byte: u8, place: usize, out: &mut [u8]) -> usize {
     let end = put_byte(script::hex_symbol(byte / 16), place, out);
-    put_byte(script::hex_symbol(byte % 16), end, out)
+    put_byte(script::hex_symbol(byte), end, out)
 }
 
 fn put_hex(bytes: &[u8], place: usize, out: &mut [u8]) -> usize {

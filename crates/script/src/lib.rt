@@ -1,5 +1,5 @@
 // The lines of a case script: words, numbers and lists, and the command that a line gives.
-ghost use Prim.Native.Nat.{_≤_, _<_};
+ghost use Prim.Native.Nat.{_≤_, _<_, min};
 ghost use lib.ListN.{length};
 ghost use Rattle.io.specs.Counts.{Counts};
 
@@ -56,8 +56,8 @@ fn is_equal(left: &[u8], right: &[u8]) -> bool {
 
 // The first place from a start on that has the symbol, or the end.
 pub fn find(text: &[u8], start: usize, symbol: u8) -> usize
-    requires { ⌜ start ≤ length (now text) ⌝ }
-    ensures { λ r. ⌜ (start ≤ r) × (r ≤ length (now (text .entry))) ⌝ }
+    ensures from { λ r. ⌜ min start (length (now (text .entry))) ≤ r ⌝ }
+    ensures within { λ r. ⌜ r ≤ length (now (text .entry)) ⌝ }
 {
     let mut i = start;
     while i < text.len() {
@@ -66,12 +66,11 @@ pub fn find(text: &[u8], start: usize, symbol: u8) -> usize
         }
         i += 1;
     }
-    i
+    text.len()
 }
 
 // Where the word after a word starts, or the end.
 fn after_word(line: &[u8], start: usize) -> usize
-    requires { ⌜ start ≤ length (now line) ⌝ }
     ensures { λ r. ⌜ r ≤ length (now (line .entry)) ⌝ }
 {
     let end = find(line, start, b' ');
@@ -181,13 +180,13 @@ fn hex_pair(high: u8, low: u8) -> u8 {
     16 * hex_value(high) + hex_value(low)
 }
 
-pub fn hex_symbol(value: u8) -> u8
-    requires { ⌜ value < 16 ⌝ }
-{
-    if value < 10 {
-        b'0' + value
+// The symbol of a value's low four bits.
+pub fn hex_symbol(value: u8) -> u8 {
+    let digit = value % 16;
+    if digit < 10 {
+        b'0' + digit
     } else {
-        b'A' + (value - 10)
+        b'A' + (digit - 10)
     }
 }
 

@@ -1,4 +1,4 @@
--- `script::find` meets its contract: i goes from the start to at most the length.
+-- `script::find` meets its contract: i goes up from the start, and where it comes to no such symbol the length is answered.
 -- Assumes nothing.
 use Prim.Native.Nat.{_-_, _≤_}
 use borrow.Author.Needs.{needs}
@@ -7,7 +7,7 @@ use Rattle.script.proofs.find.Statement.{statement}
 use Rattle.script.proofs.find.Tie as tie
 
 abbrev Inv-loop : tie.InvT-loop
-Inv-loop text start symbol i₀ i = (start ≤ i) × (i ≤ length text)
+Inv-loop text start symbol i₀ i = start ≤ i
 
 abbrev μ-loop : tie.MeasureT-loop
 μ-loop text start symbol i₀ i = length text - i
