@@ -19,7 +19,7 @@ use Rattle.circuit.specs.Report.{report}
 use Rattle.circuit.specs.Table.{Table, tableBytes, mostGates}
 use Rattle.circuit.proofs.Count.{all-counted}
 use Rattle.circuit.proofs.Bounds.{depths-below, counts-below, cost-below}
-use Rattle.circuit.proofs.Reading.{length-table, read-table, reads, bytes-read}
+use Rattle.circuit.proofs.Reading.{table-length, read-table, reads, bytes-read}
 use Rattle.circuit.proofs.WellFormed.{WellFormed, well-formed, is-well-formed}
 
 pub reads-back : ReadsBack
@@ -40,7 +40,7 @@ checks-only-tables bytes told h e =
 
 pub trims-tables : TrimsTables
 trims-tables table later t =
-    rw (checks-tables table later t) (take-at (tableBytes table) later (8 * (length (table .gates) + 1)) (length-table table))
+    rw (checks-tables table later t) (take-at (tableBytes table) later (8 * (length (table .gates) + 1)) (table-length table))
 
 -- the start that is as long as a start is that start
 same-start : (n : ℕ) (bytes : List ℕ) → take (length (take n bytes)) bytes ≡ take n bytes

@@ -19,6 +19,7 @@ use Rattle.digits.specs.Number.{wrongCount, allBelow}
 use Rattle.digits.proofs.Number.{below-at, below-drop}
 use Rattle.circuit.specs.Bytes.{Mark, byte, wrongMark, u16At}
 use Rattle.circuit.specs.Gate.{Gate, Left, Right, Add, Sub, Scale, Flip, Mul, fields, kinds, gateOf, gateMark, gateBytes}
+use Rattle.circuit.specs.Promises.{TableLength}
 use Rattle.circuit.specs.Reading.{fitting, readFields, readGate, readGates, headOf, countOf, readHead, readTable, reading}
 use Rattle.circuit.specs.Table.{Head, Table, headMark, gatesBytes, tableBytes, wrongWeight, wrongGateCount, fits, allFit}
 use Rattle.circuit.proofs.Fitting.{fit-cons}
@@ -57,14 +58,14 @@ unfolding gatesBytes
 length-gates [] = refl
 length-gates (g ∷ gs) = omega (arith, length-gates gs)
 
-pub length-table : (table : Table) → length (tableBytes table) ≡ 8 * (length (table .gates) + 1)
-length-table table = omega (arith, length-gates (table .gates))
+pub table-length : TableLength
+table-length table = omega (arith, length-gates (table .gates))
 
 pub read-table : (table : Table) (later : List ℕ) → WellFormed table → reading (tableBytes table ++ later) ≡ accepted table
 read-table table later w =
     let count : ℕ = length (table .gates) in
     let size : length (tableBytes table ++ later) ≡ 8 * (count + 1) + length later
-    = length-append (tableBytes table) later ∙ ap (λ (n : ℕ). n + length later) (length-table table) in
+    = length-append (tableBytes table) later ∙ ap (λ (n : ℕ). n + length later) (table-length table) in
     let least = le-ltb (length (tableBytes table ++ later)) 8 (omega arith) in
     let room = le-ltb (length (tableBytes table ++ later)) (8 * (count + 1)) (omega arith) in
     let gates = read-gates (table .head) 0 (table .gates) later (w .fitted) in

@@ -1,6 +1,6 @@
 -- What is proved of gate tables, for every p and any number of gates: reading back, what a refusal leaves, what gates mean, and bounds.
--- Proved in `proofs/Promises.antt`, `proofs/Later.antt`, `proofs/Bytes.antt`, `proofs/Unaltered.antt`, `proofs/Equations.antt` and
--- `proofs/Bounds.antt`.
+-- Proved in `proofs/Promises.antt`, `proofs/Reading.antt`, `proofs/Later.antt`, `proofs/Bytes.antt`, `proofs/Unaltered.antt`,
+-- `proofs/Equations.antt` and `proofs/Bounds.antt`.
 use mathlib.Core.Path.{_≡_}
 use mathlib.Core.Bool.{true}
 use mathlib.Core.List.{List, [], _++_}
@@ -34,6 +34,10 @@ OnlyTables =
 abbrev pub LaterBytes : Type 0
 LaterBytes =
     (bytes later : List ℕ) → 8 ≤ length bytes → 8 * (countOf bytes + 1) ≤ length bytes → reading (bytes ++ later) ≡ reading bytes
+
+-- "Every record .. has 8 bytes.": so a table has 8(G+1)
+abbrev pub TableLength : Type 0
+TableLength = (table : Table) → length (tableBytes table) ≡ 8 * (length (table .gates) + 1)
 
 -- a table's bytes are bytes
 abbrev pub TableBytes : Type 0

@@ -16,10 +16,23 @@ use Rattle.field.specs.Primes.{listed}
 use Rattle.digits.specs.Number.{base, wrongCount, number, digitsOf}
 use Rattle.digits.specs.Encoding.{encoding}
 use Rattle.digits.specs.Decoding.{totalOf, decoding}
-use Rattle.digits.specs.Promises.{ReadsBack, SameDigits, EncodeKeeps, TooLarge, TooWide}
+use Rattle.digits.specs.Promises.{EncodesBelow, ReadsBack, SameDigits, EncodeKeeps, TooLarge, TooWide}
 use Rattle.digits.proofs.Number.{base-pos, length-digits, digits-below, number-digits, digits-number, number-below}
 use Rattle.digits.proofs.Encoding.{large-refused, encoded, encodes}
 use Rattle.digits.proofs.Decoding.{decoded, total-refused, total-fits, decodes}
+
+-- what Encode writes
+written : (p n x : ℕ) (out : List ℕ) → encoding p n x out .answer ≡ accepted tt → take n (encoding p n x out .lent) ≡ digitsOf (base p) n x
+written p n x out e =
+    let a = encodes p n x out e in
+    ap (λ (o : Outcome Unit). take n (o .lent)) (encoded p n x out (a .prime) (a .one) (a .most) (a .room) (a .small))
+    ∙ take-at (digitsOf (base p) n x) (drop n out) n (length-digits (base p) n x)
+
+pub encodes-below : EncodesBelow
+encodes-below p n x out e =
+    let a = encodes p n x out e in
+    let pos = base-pos p (a .prime) in
+    rw (written p n x out e) (digits-below (base p) pos n x, number-digits (base p) pos n x (a .small))
 
 pub reads-back : ReadsBack
 reads-back p n x out fits e =
@@ -29,9 +42,7 @@ reads-back p n x out fits e =
     let pos = base-pos p (a .prime) in
     let back : number B ds ≡ x = number-digits B pos n x (a .small) in
     let count : length ds ≡ n = length-digits B n x in
-    let lent : take n (encoding p n x out .lent) ≡ ds
-    = ap (λ (o : Outcome Unit). take n (o .lent)) (encoded p n x out (a .prime) (a .one) (a .most) (a .room) (a .small)) ∙ take-at ds (drop n out) n count in
-    ap (decoding p) lent
+    ap (decoding p) (written p n x out e)
     ∙ decoded p ds (a .prime) (omega (arith, a .one)) (omega (arith, a .most)) (digits-below B pos n x)
     ∙ total-fits B ds (omega arith)
     ∙ ap accepted back

@@ -1,4 +1,5 @@
--- What is promised of digits (demand 2, second sentence, what a refusal leaves, and the two refusals that depend on the number). Proved in `proofs/Promises.antt`.
+-- What is promised of digits (demand 2, second sentence, what a refusal leaves, and the two refusals that depend on the number).
+-- Proved in `proofs/Promises.antt`.
 use mathlib.Core.Path.{_≡_}
 use mathlib.Core.Logic.{_↔_}
 use mathlib.Core.Bool.{true}
@@ -10,6 +11,12 @@ use Rattle.field.specs.Primes.{listed}
 use Rattle.digits.specs.Number.{base, mostDigits, number, allBelow}
 use Rattle.digits.specs.Encoding.{encoding}
 use Rattle.digits.specs.Decoding.{decoding}
+
+-- Encode makes n digits below B that stand for the number, and no others
+abbrev pub EncodesBelow : Type 0
+EncodesBelow =
+    (p n x : ℕ) (out : List ℕ) → encoding p n x out .answer ≡ accepted tt
+    → let digits = take n (encoding p n x out .lent) in (allBelow (base p) digits ≡ true) × (number (base p) digits ≡ x)
 
 -- "A number turned into n digits reads back as itself": whatever Encode accepts, Decode gives back. A number is a u64.
 abbrev pub ReadsBack : Type 0

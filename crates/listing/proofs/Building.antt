@@ -11,7 +11,7 @@ use Rattle.answer.specs.Report.{Report}
 use Rattle.answer.proofs.Outcome.{refused≢accepted, accepted-same}
 use Rattle.circuit.specs.Report.{report}
 use Rattle.circuit.specs.Table.{tableBytes, mostGates}
-use Rattle.circuit.proofs.Reading.{length-table}
+use Rattle.circuit.proofs.Reading.{table-length}
 use Rattle.query.specs.Card.{Card}
 use Rattle.query.specs.Outcomes.{tableRoom, building}
 use Rattle.query.specs.Reading.{readCard}
@@ -46,7 +46,7 @@ module _ (bytes lent : List ℕ) (room : 8 * (mostGates + 1) ≤ length lent) wh
           let same : told ≡ report table = accepted-same (h ∙ ap (λ (o : Outcome Report). o .answer) b) in
           let size = length-append (tableBytes table) later in
           rw (same, b) (
-            omega (arith, size, length-table table),
+            omega (arith, size, table-length table),
             rw e (ap (λ (text : List ℕ). summaryLine (report table) ++ text) (sym (lines-of 0 (table .gates) later))),
           )
 

@@ -15,7 +15,7 @@ use Rattle.answer.specs.Outcome.{Answer, refused, accepted}
 use Rattle.answer.proofs.Outcome.{refused≢accepted, accepted-keeps, refuse-keeps, onAnswer-keeps}
 use Rattle.circuit.specs.Report.{report}
 use Rattle.circuit.specs.Table.{tableBytes}
-use Rattle.circuit.proofs.Reading.{length-table}
+use Rattle.circuit.proofs.Reading.{table-length}
 use Rattle.query.specs.Card.{Card}
 use Rattle.query.specs.CardPromises.{RoomDecides, FillsExactly, RefusalKeeps, SameRefusal}
 use Rattle.query.specs.Outcomes.{tableRoom, building}
@@ -33,7 +33,7 @@ fills-exactly bytes lent card e room =
     let table = tableOf card in
     let later = drop (tableRoom table) lent in
     rw (built bytes lent card e room)
-    (take-at (tableBytes table) later (tableRoom table) (length-table table), drop-at (tableBytes table) later (tableRoom table) (length-table table))
+    (take-at (tableBytes table) later (tableRoom table) (table-length table), drop-at (tableBytes table) later (tableRoom table) (table-length table))
 
 pub room-decides : RoomDecides
 room-decides bytes lent card e = (
