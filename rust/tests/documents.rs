@@ -1,5 +1,5 @@
-//! The map is true: the claims' and the regulator's tables name files that are there and that declare what the tables say they
-//! do, and every statement has a proof of its own name.
+//! The map is true: the claims' and the regulator's tables name files that are there and that declare
+//! what the tables say they do, and every statement has a proof of its own name and a row.
 
 use std::collections::BTreeSet;
 use std::fs;
@@ -190,7 +190,12 @@ fn statements(texts: &[String]) -> Vec<&str> {
 }
 
 #[test]
-fn statements_have_their_proofs() {
+fn statements_have_their_proofs_and_rows() {
+    let claims = read("docs/CLAIMS.md");
+    let claimed: BTreeSet<&str> = rows(&claims)
+        .iter()
+        .flat_map(|cells| spans(cells[1]))
+        .collect();
     let mut count = 0;
     for entry in fs::read_dir(root().join("crates")).expect("the crates are there") {
         let folder = entry.expect("the folder can be read").path();
@@ -202,6 +207,7 @@ fn statements_have_their_proofs() {
                 .iter()
                 .any(|text| text.lines().any(|line| line == proof));
             assert!(is_proved, "{}: no line '{proof}'", folder.display());
+            assert!(claimed.contains(statement), "{statement} has no row");
             count += 1;
         }
     }

@@ -1,5 +1,5 @@
 -- Chains of refusals: what is accepted has passed every rule, one rule at a time;
--- an outcome that is known gives its answer and its lent bytes; a chain that refuses keeps the lent bytes;
+-- an outcome that is known gives its answer and its lent bytes; a chain that refuses keeps the lent bytes and has one of its rules' numbers;
 -- and an entry taken by its place is the one that stands there.
 -- Assumes nothing.
 use mathlib.Core.Path.{_≡_, refl, sym, ap, subst, _∙_}
@@ -36,6 +36,33 @@ pub onAnswer-keeps : {A B : Type 0} {bytes : List ℕ} {later : A → Outcome B}
     → Keeps bytes (onAnswer first (unaltered bytes) later)
 onAnswer-keeps (refused k) h = record { kept = λ number r. refl }
 onAnswer-keeps (accepted a) h = h a
+
+-- ---- which numbers refuse: where nothing does, after one rule more, after an answer, and of an entry taken by its place
+
+pub record Refuses {A : Type 0} (P : ℕ → Type 0) (answer : Answer A) : Type 0 where
+  pub number : (k : ℕ) → answer ≡ refused k → P k
+
+pub accepted-refuses : {A : Type 0} {P : ℕ → Type 0} {a : A} → Refuses P (accepted a)
+accepted-refuses = record { number = λ k r. absurd (refused≢accepted (sym r)) }
+
+refused-refuses : {A : Type 0} {P : ℕ → Type 0} {m : ℕ} → P m → Refuses {A = A} P (refused m)
+refused-refuses {A} {P} {m} known = record { number = λ k r. let same : m ≡ k = cc in subst P same known }
+
+pub refuse-refuses : {A : Type 0} {P : ℕ → Type 0} {later : Answer A} (test : Bool) (m : ℕ) → P m → Refuses P later
+    → Refuses P (refuse test (refused m) later)
+refuse-refuses true m known h = refused-refuses known
+refuse-refuses false m known h = h
+
+pub onAnswer-refuses : {A B : Type 0} {P : ℕ → Type 0} {later : A → Answer B} (first : Answer A) → Refuses P first
+    → ((a : A) → Refuses P (later a)) → Refuses P (onAnswer first refused later)
+onAnswer-refuses (refused m) known h = refused-refuses (known .number m refl)
+onAnswer-refuses (accepted a) known h = h a
+
+pub numbered-refuses : {A : Type 0} {P : ℕ → Type 0} (m place : ℕ) (entries : List A) → P m → Refuses P (numbered m place entries)
+numbered-refuses m place [] known = refused-refuses known
+numbered-refuses m zero (a ∷ more) known = refused-refuses known
+numbered-refuses m (suc zero) (a ∷ more) known = accepted-refuses
+numbered-refuses m (suc (suc place)) (a ∷ more) known = numbered-refuses m (suc place) more known
 
 -- what is accepted after an answer was accepted too
 pub answered : {A B : Type 0} {b : B} (first : Answer A) (later : A → Answer B) → onAnswer first refused later ≡ accepted b

@@ -2,18 +2,19 @@
 -- All follow from what reading gives, in `proofs/Reading.antt`.
 -- Assumes nothing.
 use mathlib.Core.Path.{_≡_, refl, sym, ap, _∙_}
-use mathlib.Core.List.{List, []}
-use Prim.Native.Nat.{ℕ, _+_, _-_, _*_}
+use mathlib.Core.List.{List, [], _++_}
+use Prim.Native.Nat.{ℕ, _+_, _-_, _*_, _<_}
 use native.Mathlib.Omega.{arith}
-use borrow.Author.Tests.{eq-eqb, le-ltb}
+use native.Mathlib.Decide.{decLt}
+use borrow.Author.Tests.{eq-eqb, lt-ltb, le-ltb}
 use lib.ListN.{length, take, drop, take-append-drop}
 use lib.Seq.{take-at, take-append-seam}
-use Rattle.answer.specs.Outcome.{Answer, refused, accepted, onAnswer}
+use Rattle.answer.specs.Outcome.{Answer, refused, accepted, Outcome, onAnswer}
 use Rattle.answer.specs.Report.{Report}
-use Rattle.answer.proofs.Outcome.{answered, accepted-same}
+use Rattle.answer.proofs.Outcome.{refused≢accepted, answered, accepted-same}
 use Rattle.field.proofs.Tests.{in-range}
-use Rattle.circuit.specs.Outcomes.{checking}
-use Rattle.circuit.specs.Promises.{ReadsBack, OnlyTables, ChecksTables, ChecksOnlyTables, TrimsTables, TrimsStart, TrimsNothing, RunsTables, RunAccepts, Bounded, ReportBounds}
+use Rattle.circuit.specs.Outcomes.{checking, running}
+use Rattle.circuit.specs.Promises.{TableReadsBack, OnlyTables, ChecksTables, ChecksOnlyTables, TrimsTables, TrimsStart, TrimsNothing, RunsTables, RunAccepts, WorkDecides, Bounded, ReportBounds}
 use Rattle.circuit.specs.Reading.{reading}
 use Rattle.circuit.specs.Report.{report}
 use Rattle.circuit.specs.Table.{Table, tableBytes, mostGates}
@@ -22,15 +23,15 @@ use Rattle.circuit.proofs.Bounds.{depths-below, counts-below, cost-belo
 use Rattle.circuit.proofs.Reading.{table-length, read-table, reads, bytes-read}
 use Rattle.circuit.proofs.WellFormed.{WellFormed, well-formed, is-well-formed}
 
-pub reads-back : ReadsBack
-reads-back table later t = read-table table later (well-formed table t)
+pub table-reads-back : TableReadsBack
+table-reads-back table later t = read-table table later (well-formed table t)
 
 pub only-tables : OnlyTables
 only-tables bytes table h e =
     let r = reads bytes table e in (is-well-formed table (r .formed), bytes-read bytes table h r)
 
 pub checks-tables : ChecksTables
-checks-tables table later t = rw (reads-back table later t)
+checks-tables table later t = rw (table-reads-back table later t)
 
 pub checks-only-tables : ChecksOnlyTables
 checks-only-tables bytes told h e =
@@ -59,11 +60,24 @@ pub trims-nothing : TrimsNothing
 trims-nothing bytes number e = rw e
 
 pub runs-tables : RunsTables
-runs-tables table later left right work t = rw (reads-back table later t)
+runs-tables table later left right work t = rw (table-reads-back table later t)
 
 pub run-accepts : RunAccepts
 run-accepts table later left right work t l r hl hr enough =
     runs-tables table later left right work t ∙ rw (eq-eqb _ _ l, eq-eqb _ _ r, hl, hr, le-ltb _ _ enough)
+
+pub work-decides : WorkDecides
+work-decides table later left right work t l r hl hr = (
+  there (decLt (length work) (length (table .gates))),
+  λ short. rw (runs-tables table later left right work t, eq-eqb _ _ l, eq-eqb _ _ r, hl, hr, lt-ltb _ _ short),
+)
+  where
+    there : Dec (length work < length (table .gates)) → running (tableBytes table ++ later) left right work .answer ≡ refused 20
+        → length work < length (table .gates)
+    there (yes short) e = short
+    there (no n) e =
+        let ran = run-accepts table later left right work t l r hl hr (omega arith) in
+        absurd (refused≢accepted (sym e ∙ ap (λ (o : Outcome ℕ). o .answer) ran))
 
 bounds : (table : Table) → WellFormed table → Bounded (report table)
 bounds table w =

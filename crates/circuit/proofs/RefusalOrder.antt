@@ -13,4 +13,4 @@ check-order = refl
 
 pub run-order : RunOrder
 unfolding listed member primes allBelow gatesBytes readGates
-run-order = refl
+run-order = (refl, refl)

@@ -27,6 +27,7 @@ module _ (p : ℕ) (left right : List ℕ) (value : ℕ → ℕ) where
   Equations k [] = Unit {0}
   Equations k (g ∷ gs) = Equation k g × Equations (suc k) gs
 
+-- "All modulo p.": the values of a table's gates meet the equation of every gate
 abbrev pub GateValues : Type 0
 GateValues =
     (p : ℕ) (left right : List ℕ) (head : Head) (gates : List Gate) → 0 < p → allFit head 0 gates ≡ true

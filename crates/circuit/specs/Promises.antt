@@ -2,6 +2,7 @@
 -- Proved in `proofs/Promises.antt`, `proofs/Reading.antt`, `proofs/Later.antt`, `proofs/Bytes.antt`, `proofs/Unaltered.antt`,
 -- `proofs/Equations.antt` and `proofs/Bounds.antt`.
 use mathlib.Core.Path.{_≡_}
+use mathlib.Core.Logic.{_↔_}
 use mathlib.Core.Bool.{true}
 use mathlib.Core.List.{List, [], _++_}
 use Prim.Native.Nat.{ℕ, _+_, _*_, _≤_, _<_}
@@ -21,8 +22,8 @@ use Rattle.circuit.specs.Value.{values}
 -- ---- reading back
 
 -- a table's bytes, with anything after them, read as that table
-abbrev pub ReadsBack : Type 0
-ReadsBack = (table : Table) (later : List ℕ) → wellFormed table ≡ true → reading (tableBytes table ++ later) ≡ accepted table
+abbrev pub TableReadsBack : Type 0
+TableReadsBack = (table : Table) (later : List ℕ) → wellFormed table ≡ true → reading (tableBytes table ++ later) ≡ accepted table
 
 -- and nothing else is read: accepted bytes are those of a well-formed table, and what comes after it
 abbrev pub OnlyTables : Type 0
@@ -84,13 +85,21 @@ RunAccepts =
       lent = entries (values (table .head .prime) left right) (table .gates) ++ drop (length (table .gates)) work;
     }
 
+-- of such lists, 20 exactly where the work buffer is under G
+abbrev pub WorkDecides : Type 0
+WorkDecides =
+    (table : Table) (later left right work : List ℕ) → wellFormed table ≡ true
+    → length left ≡ leftSlots (table .head) → length right ≡ rightSlots (table .head)
+    → allBelow (table .head .prime) left ≡ true → allBelow (table .head .prime) right ≡ true
+    → (running (tableBytes table ++ later) left right work .answer ≡ refused 20) ↔ (length work < length (table .gates))
+
 -- "every lent byte is then unaltered"
 abbrev pub RunKeeps : Type 0
 RunKeeps = (bytes left right work : List ℕ) → Keeps work (running bytes left right work)
 
 -- ---- meaning
 
--- of a table's gates, whatever is asked of them: one entry for each, and each is what its gate means by the others
+-- of a table's gates, for every meaning: one entry for each, and each is what its gate means by the others
 abbrev pub EachItsMeaning : Type 1
 EachItsMeaning =
     (A : Type 0) (alg : Algebra A) (head : Head) (gates : List Gate) → allFit head 0 gates ≡ true

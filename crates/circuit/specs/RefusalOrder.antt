@@ -35,9 +35,11 @@ abbrev pub CheckOrder : Type 0
 CheckOrder =
     map (λ bytes. refusalIn (checking bytes)) brokenTables ≡ 12 ∷ 2 ∷ 3 ∷ 4 ∷ 13 ∷ 5 ∷ 14 ∷ 15 ∷ 2 ∷ 5 ∷ 16 ∷ 17 ∷ []
 
--- "Check's, then 18 left or right list not N long, 19 a value of p or more, 20 work buffer under G"
+-- "Check's, then 18 left or right list not N long, 19 a value of p or more, 20 work buffer under G": lists that break 18 and 19, and no work byte
 abbrev pub RunOrder : Type 0
 RunOrder =
-    let run : List ℕ → List ℕ → ℕ = λ left right. refusalIn (running (tableBytes lessTable) left right [] .answer) in
-    run (3 ∷ []) [] ∷ run [] (3 ∷ []) ∷ run (3 ∷ []) (0 ∷ []) ∷ run (0 ∷ []) (3 ∷ []) ∷ run (0 ∷ []) (0 ∷ []) ∷ []
-    ≡ 18 ∷ 18 ∷ 19 ∷ 19 ∷ 20 ∷ []
+    let run : List ℕ → List ℕ → List ℕ → ℕ = λ bytes left right. refusalIn (running bytes left right [] .answer) in
+    let good = tableBytes lessTable in
+    (map (λ bytes. run bytes (3 ∷ []) []) brokenTables ≡ 12 ∷ 2 ∷ 3 ∷ 4 ∷ 13 ∷ 5 ∷ 14 ∷ 15 ∷ 2 ∷ 5 ∷ 16 ∷ 17 ∷ [])
+    × (run good (3 ∷ []) [] ∷ run good [] (3 ∷ []) ∷ run good (3 ∷ []) (0 ∷ []) ∷ run good (0 ∷ []) (3 ∷ []) ∷ run good (0 ∷ []) (0 ∷ []) ∷ []
+    ≡ 18 ∷ 18 ∷ 19 ∷ 19 ∷ 20 ∷ [])

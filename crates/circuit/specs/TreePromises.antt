@@ -1,4 +1,4 @@
--- What is proved of product trees, over any factors.
+-- What is proved of product trees, over factors that are kept in gate order, and of all trees over any factors.
 -- Proved in `proofs/ProductTree.antt` and `proofs/Kraft.antt`.
 use mathlib.Core.Path.{_≡_}
 use mathlib.Core.Bool.{true}
@@ -19,7 +19,7 @@ use Rattle.circuit.specs.Tree.{Tree, leaves, height}
 use Rattle.circuit.specs.Value.{values}
 
 -- "while two factors remain, MUL the two of least depth, equal depths by lower gate number, first chosen as a; the product is a new factor.",
--- as a rule that gates keep or break: those over the factors, from gate number k on, where the last factor left is the output
+-- as a rule for the gates that are written over the factors, from gate number k on; the factor that is left in the end is the output
 abbrev pub TwoLeast : ℕ → List Node → List Gate → Node → Type 0
 TwoLeast k factors [] output = factors ≡ output ∷ []
 TwoLeast k factors (g ∷ gs) output =

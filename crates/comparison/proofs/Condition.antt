@@ -28,11 +28,11 @@ use Rattle.comparison.specs.Condition.{Condition, numberIn}
 use Rattle.comparison.specs.Digits.{digitsFrom}
 use Rattle.comparison.specs.Formulas.{gatesBeforeFlip, conditionSize, productsOf, squaresOf, costSummand}
 use Rattle.comparison.specs.OrderDigit.{half}
-use Rattle.comparison.specs.Promises.{OutputIsLast, ConditionSized, ConditionFits, ConditionCounts, OrderCost, CostWithin, ConditionHolds, ConditionDepth}
+use Rattle.comparison.specs.Promises.{OutputIsLast, ConditionSized, ConditionFits, ConditionCounts, OrderCost, CostWithin, EqualityTree, ConditionHolds, ConditionDepth}
 use Rattle.comparison.specs.Relation.{isOrder, isBackward, isFlipped, minuend, subtrahend, tested, flippedIf}
 use Rattle.comparison.specs.Writing.{joining, ending, conditionSegment}
 use Rattle.comparison.proofs.Bits.{ones-below, flog-below}
-use Rattle.comparison.proofs.EqualityCondition.{equality-length, equality-count, equality-last, equality-fits, equality-value, equality-node, equality-depth}
+use Rattle.comparison.proofs.EqualityCondition.{equality-length, equality-count, equality-last, equality-least, equality-fits, equality-value, equality-node, equality-depth}
 use Rattle.comparison.proofs.OrderCondition.{order-length, order-count, order-last, order-fits, order-value, order-depth}
 use Rattle.comparison.proofs.Relations.{relation-tested, sides, in-base}
 
@@ -212,6 +212,9 @@ cost-within p s c three odd some = go (isOrder (c .relation))
         let odds : n * (100 * (ones t - 1)) ≤ n * (50 * (p - 3)) = mul-le-mul-left n (omega (arith, few)) in
         let evens : n * (s * flog t) ≤ n * (s * (t / 4 + 1)) = mul-le-mul-left n (mul-le-mul-left s (flog-below t (omega arith))) in
         omega (arith, odds, evens, flog-less n some)
+
+pub equality-tree : EqualityTree
+equality-tree p k c three odd some equality = equality-least p three odd c equality some k
 
 pub condition-holds : ConditionHolds
 unfolding conditionSegment

@@ -17,14 +17,14 @@ use Rattle.circuit.proofs.Fitting.{all-named}
 use Rattle.circuit.proofs.Meaning.{later-solved}
 use Rattle.comparison.specs.Condition.{Condition}
 use Rattle.comparison.specs.Difference.{difference, zGate}
-use Rattle.comparison.specs.DigitPromises.{firstDigit, secondDigit, InBase, OrderDigitHolds, OrderDigitDepth, EqualityDigitHolds, EqualityDigitDepth, EqualityDigitCounts}
+use Rattle.comparison.specs.DigitPromises.{firstDigit, secondDigit, InBase, DigitsFollow, TermPowers, OrderDigitHolds, OrderDigitDepth, EqualityDigitHolds, EqualityDigitDepth, EqualityDigitCounts}
 use Rattle.comparison.specs.Digits.{digitGates}
 use Rattle.comparison.specs.EqualityDigit.{zeroGates}
 use Rattle.comparison.specs.OrderDigit.{equalGate}
 use Rattle.comparison.specs.Relation.{isOrder}
 use Rattle.comparison.specs.Writing.{digitDepth}
-use Rattle.comparison.proofs.Digits.{digit-fits}
-use Rattle.comparison.proofs.DigitTests.{less-is, zero-is, equal-is, less-deep, zero-deep, equal-deep}
+use Rattle.comparison.proofs.Digits.{digit-next, start-first, digit-fits}
+use Rattle.comparison.proofs.DigitTests.{powers-of, less-is, zero-is, equal-is, less-deep, zero-deep, equal-deep}
 use Rattle.comparison.proofs.EqualityDigit.{zero-count}
 
 -- a digit's gates name only earlier ones, so their entries solve them
@@ -36,7 +36,17 @@ digit-solved alg p gates c j three odd =
     later-solved alg gates (digitGates p c j k)
     (all-named head k (digitGates p c j k) (digit-fits p three odd head c j k refl (omega arith) (omega arith)))
 
+pub digits-follow : DigitsFollow
+digits-follow p k j c three odd = (start-first p three odd c k, digit-next p three odd c k j)
+
 -- ---- the order digit
+
+pub term-powers : TermPowers
+term-powers p left right gates c j three odd order =
+    let k = length gates in
+    let alg = values p left right in
+    let E = entryAt alg (gates ++ digitGates p c j k) in
+    powers-of p three odd left right E c k j (digit-solved alg p gates c j three odd) order
 
 pub order-digit-holds : OrderDigitHolds
 order-digit-holds p left right gates c j prime three odd order low =

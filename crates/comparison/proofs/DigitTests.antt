@@ -5,17 +5,18 @@
 use mathlib.Core.Path.{_≡_, refl, ap, ap₂, _∙_}
 use mathlib.Core.Bool.{Bool, true, false}
 use mathlib.Core.List.{List}
-use Prim.Native.Nat.{ℕ, suc, _+_, _-_, _%_, _≤_, _<_}
+use Prim.Native.Nat.{ℕ, suc, _+_, _-_, _%_, _^_, _≤_, _<_}
 use native.Mathlib.Omega.{arith}
 use lib.Dec.{ltb, eqb}
 use lib.ListN.{length}
 use Rattle.field.specs.Bit.{bit}
 use Rattle.field.specs.Logarithm.{clog}
 use Rattle.field.specs.Modular.{subMod}
-use Rattle.field.specs.Polynomials.{zeroTest, orderPolynomial}
+use Rattle.field.specs.Polynomials.{zeroTest, orderExponents, orderPolynomial}
 use Rattle.field.specs.Primes.{Prime}
 use Rattle.digits.proofs.Comparing.{less-test, equal-test}
 use Rattle.circuit.specs.Depth.{depths}
+use Rattle.circuit.specs.Every.{Every}
 use Rattle.circuit.specs.Meaning.{Algebra, meaning, Solves}
 use Rattle.circuit.specs.Value.{values}
 use Rattle.circuit.proofs.Meaning.{solves-append}
@@ -24,10 +25,10 @@ use Rattle.comparison.specs.Difference.{minus, zGate}
 use Rattle.comparison.specs.DigitPromises.{firstDigit, secondDigit, InBase}
 use Rattle.comparison.specs.Digits.{tests, digitGates}
 use Rattle.comparison.specs.EqualityDigit.{zeroGates}
-use Rattle.comparison.specs.OrderDigit.{lessGates, lessGate, equalGates, equalGate}
+use Rattle.comparison.specs.OrderDigit.{powerGate, lessGates, lessGate, equalGates, equalGate}
 use Rattle.comparison.specs.Relation.{isOrder, isBackward, minuend, subtrahend}
 use Rattle.comparison.proofs.EqualityDigit.{zero-value, zero-depth}
-use Rattle.comparison.proofs.OrderDigit.{less-length, less-value, equal-value, less-depth, equal-depth}
+use Rattle.comparison.proofs.OrderDigit.{less-length, powers-are, less-value, equal-value, less-depth, equal-depth}
 
 -- the tests of an order digit
 order-parts : (p : ℕ) → 3 ≤ p → p % 2 ≡ 1 → {A : Type 0} (alg : Algebra A) (E : ℕ → A) (j k : ℕ)
@@ -78,6 +79,14 @@ module _ (p : ℕ) (prime : Prime p) (three : 3 ≤ p) (odd : p % 2 ≡ 1) (left
       let t : Solves (values p left right) E (suc (zGate k)) (tests true p (suc j) k) = rw e at (h .1 .1 .1) in
       let s = order-parts p three odd (values p left right) E (suc j) k t in
       equal-value p three odd left right E k (s .0) j (s .1) ∙ zero-equal (suc j) h low
+
+-- the powers that the terms of an order digit name
+pub powers-of : (p : ℕ) → 3 ≤ p → p % 2 ≡ 1 → (left right : List ℕ) (E : ℕ → ℕ) (c : Condition) (k j : ℕ)
+    → Solves (values p left right) E k (digitGates p c j k) → isOrder (c .relation) ≡ true
+    → Every (λ i. E (powerGate p (zGate k) i) % p ≡ (E (zGate k) ^ i) % p) (orderExponents p)
+powers-of p three odd left right E c k j h e =
+    let t : Solves (values p left right) E (suc (zGate k)) (tests true p j k) = rw e at (h .1 .1 .1) in
+    powers-are p three odd left right E k (order-parts p three odd (values p left right) E j k t .0)
 
 -- ---- depths
 

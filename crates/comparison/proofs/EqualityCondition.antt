@@ -29,12 +29,13 @@ use Rattle.circuit.specs.Meaning.{Algebra, Solves}
 use Rattle.circuit.specs.ProductTree.{least}
 use Rattle.circuit.specs.Segment.{Node, Segment}
 use Rattle.circuit.specs.Table.{Head, leftSlots, rightSlots, allFit}
+use Rattle.circuit.specs.TreePromises.{TwoLeast}
 use Rattle.circuit.specs.Value.{values}
 use Rattle.circuit.proofs.Choosing.{firstOf}
 use Rattle.circuit.proofs.Count.{count-append}
 use Rattle.circuit.proofs.Fitting.{fit-append}
 use Rattle.circuit.proofs.Meaning.{solves-append}
-use Rattle.circuit.proofs.ProductTree.{tree-last, product-fits, product-count, multiply-value, multiply-below, multiply-entry}
+use Rattle.circuit.proofs.ProductTree.{least-first, tree-last, product-fits, product-count, multiply-value, multiply-below, multiply-entry}
 use Rattle.circuit.proofs.TreeDepth.{tree-depth}
 use Rattle.comparison.specs.Bits.{ones}
 use Rattle.comparison.specs.Condition.{Condition}
@@ -143,6 +144,9 @@ module _ (p : ℕ) (three : 3 ≤ p) (odd : p % 2 ≡ 1) (c : Condition) (equali
       tree-last next factors enough
       (λ single. one-factor (c .digits) 0 (omega arith) ∙ sym (next-is ∙ ap start (sym n ∙ single)))
       ∙ omega (arith, length-append digits (joined .gates), product-count next factors enough order .0)
+
+  pub equality-least : TwoLeast next factors (joined .gates) (joined .output)
+  equality-least = least-first next factors enough order
 
   pub equality-fits : (head : Head) → head .prime ≡ p → c .left + c .digits ≤ leftSlots head → c .right + c .digits ≤ rightSlots head
       → allFit head k gates ≡ true

@@ -119,6 +119,9 @@ module _ (p : ℕ) (three : 3 ≤ p) (odd : p % 2 ≡ 1) where
     power-is : (i : ℕ) → 1 ≤ i → Asked p i → E (powerGate p (zGate k) i) % p ≡ (E (zGate k) ^ i) % p
     power-is = power-value left right E p (zGate k) three odd (parts (values p left right) E k h .0)
 
+    pub powers-are : Every (λ i. E (powerGate p (zGate k) i) % p ≡ (E (zGate k) ^ i) % p) (orderExponents p)
+    powers-are = every-exponent _ p three odd power-is
+
     pub less-value : E (lessGate p k) ≡ orderPolynomial p (E (zGate k)) % p
     unfolding orderPolynomial
     less-value =
@@ -128,7 +131,7 @@ module _ (p : ℕ) (three : 3 ≤ p) (odd : p % 2 ≡ 1) where
         let last = lessGate p k in
         let is = orderExponents p in
         sym (mod-eq-of-lt (terms-below left right E p z (E z) (omega arith) t last is some (sum-last k) ts))
-        ∙ terms-value left right E p z (E z) (omega arith) t last is some (sum-last k) (every-exponent _ p three odd power-is) ts
+        ∙ terms-value left right E p z (E z) (omega arith) t last is some (sum-last k) powers-are ts
 
     pub equal-value : (j : ℕ) → Solves (values p left right) E (equalGate p k) (equalGates p (suc j) k)
         → E (equalGate p k) ≡ zeroTest p (E (zGate k))

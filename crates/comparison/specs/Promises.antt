@@ -1,7 +1,7 @@
 -- What is proved of one condition, for every odd prime p and any n from 1 on, written after any gates.
 -- Proved in `proofs/Condition.antt`.
 use mathlib.Core.Path.{_≡_}
-use mathlib.Core.Bool.{true}
+use mathlib.Core.Bool.{true, false}
 use mathlib.Core.List.{List, _++_}
 use Prim.Native.Nat.{ℕ, suc, _+_, _-_, _%_, _≤_}
 use lib.ListN.{length}
@@ -14,11 +14,13 @@ use Rattle.circuit.specs.Depth.{depths}
 use Rattle.circuit.specs.Gate.{Gate}
 use Rattle.circuit.specs.Meaning.{entryAt}
 use Rattle.circuit.specs.Table.{Head, leftSlots, rightSlots, allFit}
+use Rattle.circuit.specs.TreePromises.{TwoLeast}
 use Rattle.circuit.specs.Value.{values}
 use Rattle.comparison.specs.Condition.{Condition, holds}
+use Rattle.comparison.specs.Digits.{digitsFrom}
 use Rattle.comparison.specs.Formulas.{conditionSize, conditionProducts, conditionSquares, conditionCost, costSummand}
 use Rattle.comparison.specs.Relation.{isOrder}
-use Rattle.comparison.specs.Writing.{conditionSegment}
+use Rattle.comparison.specs.Writing.{equalityFactors, equalityJoining, conditionSegment}
 
 -- "A condition's output is the last gate that it writes."
 abbrev pub OutputIsLast : Type 0
@@ -54,6 +56,14 @@ OrderCost =
 -- and every condition at most that
 abbrev pub CostWithin : Type 0
 CostWithin = (p s : ℕ) (c : Condition) → 3 ≤ p → p % 2 ≡ 1 → 1 ≤ c .digits → conditionCost p s c ≤ costSummand p s (c .digits)
+
+-- "Equality joining: product tree over the digits.", by the rule for product trees
+abbrev pub EqualityTree : Type 0
+EqualityTree =
+    (p k : ℕ) (c : Condition) → 3 ≤ p → p % 2 ≡ 1 → 1 ≤ c .digits → isOrder (c .relation) ≡ false
+    → let next = k + length (digitsFrom p c k (c .digits) 0) in
+    let joined = equalityJoining p c k next in
+    TwoLeast next (equalityFactors p c k (c .digits) 0) (joined .gates) (joined .output)
 
 -- the output is 1 where the condition holds, and 0 otherwise
 abbrev pub ConditionHolds : Type 0

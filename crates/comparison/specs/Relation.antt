@@ -81,7 +81,8 @@ abbrev pub flippedIf : Bool → Bool → Bool
 flippedIf true t = not t
 flippedIf false t = t
 
--- with its FLIP, that is the relation: 2, 4 and 6 are the opposites of 3, 1 and 5. Proved in `proofs/Relations.antt`
+-- side, test and FLIP of each relation together are its truth: 2, 4 and 6 are the opposites of 3, 1 and 5.
+-- Proved in `proofs/Relations.antt`
 abbrev pub RelationTested : Type 0
 RelationTested =
     (r : Relation) (x y : ℕ)

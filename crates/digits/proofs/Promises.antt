@@ -16,7 +16,7 @@ use Rattle.field.specs.Primes.{listed}
 use Rattle.digits.specs.Number.{base, wrongCount, number, digitsOf}
 use Rattle.digits.specs.Encoding.{encoding}
 use Rattle.digits.specs.Decoding.{totalOf, decoding}
-use Rattle.digits.specs.Promises.{EncodesBelow, ReadsBack, SameDigits, EncodeKeeps, TooLarge, TooWide}
+use Rattle.digits.specs.Promises.{EncodesBelow, NumberReadsBack, SameDigits, EncodeKeeps, TooLarge, TooWide}
 use Rattle.digits.proofs.Number.{base-pos, length-digits, digits-below, number-digits, digits-number, number-below}
 use Rattle.digits.proofs.Encoding.{large-refused, encoded, encodes}
 use Rattle.digits.proofs.Decoding.{decoded, total-refused, total-fits, decodes}
@@ -32,10 +32,10 @@ pub encodes-below : EncodesBelow
 encodes-below p n x out e =
     let a = encodes p n x out e in
     let pos = base-pos p (a .prime) in
-    rw (written p n x out e) (digits-below (base p) pos n x, number-digits (base p) pos n x (a .small))
+    rw (written p n x out e) (length-digits (base p) n x, digits-below (base p) pos n x, number-digits (base p) pos n x (a .small))
 
-pub reads-back : ReadsBack
-reads-back p n x out fits e =
+pub number-reads-back : NumberReadsBack
+number-reads-back p n x out fits e =
     let a = encodes p n x out e in
     let B : ℕ = base p in
     let ds : List ℕ = digitsOf B n x in

@@ -4,3 +4,4 @@ pub mod Comparing
 pub mod Encoding
 pub mod Decoding
 pub mod Promises
+pub mod RefusalOrder

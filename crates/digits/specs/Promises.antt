@@ -1,4 +1,5 @@
--- What is promised of digits (demand 2, second sentence, what a refusal leaves, and the two refusals that depend on the number).
+-- What is promised of digits: what Encode makes, reading back (demand 2, second sentence), what a refusal leaves, and the two refusals
+-- that depend on the number.
 -- Proved in `proofs/Promises.antt`.
 use mathlib.Core.Path.{_≡_}
 use mathlib.Core.Logic.{_↔_}
@@ -12,15 +13,16 @@ use Rattle.digits.specs.Number.{base, mostDigits, number, allBelow}
 use Rattle.digits.specs.Encoding.{encoding}
 use Rattle.digits.specs.Decoding.{decoding}
 
--- Encode makes n digits below B that stand for the number, and no others
+-- the first n bytes that an accepted Encode leaves are n digits below B that stand for the number
 abbrev pub EncodesBelow : Type 0
 EncodesBelow =
     (p n x : ℕ) (out : List ℕ) → encoding p n x out .answer ≡ accepted tt
-    → let digits = take n (encoding p n x out .lent) in (allBelow (base p) digits ≡ true) × (number (base p) digits ≡ x)
+    → let digits = take n (encoding p n x out .lent) in
+    (length digits ≡ n) × (allBelow (base p) digits ≡ true) × (number (base p) digits ≡ x)
 
 -- "A number turned into n digits reads back as itself": whatever Encode accepts, Decode gives back. A number is a u64.
-abbrev pub ReadsBack : Type 0
-ReadsBack =
+abbrev pub NumberReadsBack : Type 0
+NumberReadsBack =
     (p n x : ℕ) (out : List ℕ) → x < 2 ^ 64 → encoding p n x out .answer ≡ accepted tt
     → decoding p (take n (encoding p n x out .lent)) ≡ accepted x
 

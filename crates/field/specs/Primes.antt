@@ -55,6 +55,7 @@ pub record OddPrime (p : ℕ) : Type 0 where
 abbrev pub ListedIsOddPrime : Type 0
 ListedIsOddPrime = (p : ℕ) → (listed p ≡ true) ↔ OddPrime p
 
+-- "ascending"
 abbrev pub PrimesAscend : Type 0
 PrimesAscend = (i j : ℕ) → i < j → j < length primes → getD primes i 0 < getD primes j 0
 

@@ -10,13 +10,15 @@ use borrow.Author.Tests.{le-ltb, ne-eqb}
 use lib.Dec.{eqb}
 use lib.ListN.{length, take}
 use lib.Seq.{length-take-le, getD-take}
-use Rattle.answer.specs.Outcome.{Answer, refused, refuse}
+use Rattle.answer.specs.Outcome.{Answer, refused, accepted, refuse}
 use Rattle.field.specs.Primes.{listed}
 use Rattle.field.proofs.Tests.{in-range}
 use Rattle.circuit.specs.Bytes.{byte, wrongMark}
 use Rattle.circuit.specs.Table.{wrongWeight}
 use Rattle.query.specs.Card.{Card, cardMark, wrongConditionCount, mostConditions}
 use Rattle.query.specs.Reading.{readCard}
+use Rattle.query.proofs.CardFacts.{accepted-card}
+use Rattle.query.proofs.Reading.{reads}
 use Rattle.listing.specs.Promises.{mostCard, LongCard}
 
 -- the sixth and the seventh rule
@@ -53,5 +55,15 @@ long-read bytes l =
     (refuse (not (eqb (byte bytes 5) 0)) (refused 5) later))))
     (counted-same 39 (length bytes) (byte bytes 4) _ _ (omega arith) l))
 
+-- a card that is accepted is as long as its count says
+long-refused : (bytes : List ℕ) → mostCard < length bytes → (number : ℕ) × (readCard bytes ≡ refused number)
+long-refused bytes l = go (readCard bytes) refl
+  where
+    go : (read : Answer Card) → readCard bytes ≡ read → (number : ℕ) × (readCard bytes ≡ refused number)
+    go (refused number) e = (number, e)
+    go (accepted card) e =
+        let r = reads bytes card e in absurd (omega (arith, r .size, r .count, accepted-card bytes card e .count .1))
+
 pub long-card : LongCard
-long-card bytes l = rw (long-read bytes l) (refl, refl)
+long-card bytes l =
+    let refusal = long-refused bytes l in ((refusal .0, rw (refusal .1)), rw (long-read bytes l), rw (long-read bytes l))

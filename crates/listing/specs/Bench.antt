@@ -25,5 +25,6 @@ firstListing =
     -- 6 ADD 4 5
     ++ (54 ∷ 32 ∷ 65 ∷ 68 ∷ 68 ∷ 32 ∷ 52 ∷ 32 ∷ 53 ∷ 10 ∷ [])
 
+-- what is listed of that card
 abbrev pub FirstListing : Type 0
 FirstListing = listing firstCard ≡ firstListing

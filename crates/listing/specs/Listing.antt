@@ -12,6 +12,6 @@ use Rattle.listing.specs.Lines.{gateLines, summaryLine, refusalLine}
 abbrev pub tableListing : Table → List ℕ
 tableListing table = summaryLine (report table) ++ gateLines 0 (table .gates)
 
--- the listing of the card's table, or the line of the refusal; with room for the table there is no other than the card's
+-- the listing of the card's table, or the line of the refusal: with room for every table Build refuses by a card's rules only
 abbrev pub listing : List ℕ → List ℕ
 listing bytes = onAnswer (readCard bytes) refusalLine (λ card. tableListing (tableOf card))

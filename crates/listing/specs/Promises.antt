@@ -27,15 +27,18 @@ TableListed =
 abbrev pub mostCard : ℕ
 mostCard = 6 + 4 * mostConditions
 
--- input longer than any card gives the same refusal where only its first bytes are read, one more than a card has
+-- input longer than any card is refused, and as its first bytes are, one more than a card has
 abbrev pub LongCard : Type 0
 LongCard =
     (bytes : List ℕ) → mostCard < length bytes
-    → (forecasting (take (mostCard + 1) bytes) ≡ forecasting bytes) × (listing (take (mostCard + 1) bytes) ≡ listing bytes)
+    → ((number : ℕ) × (forecasting bytes ≡ refused number))
+    × (forecasting (take (mostCard + 1) bytes) ≡ forecasting bytes)
+    × (listing (take (mostCard + 1) bytes) ≡ listing bytes)
 
 -- a summary has 61 bytes at most, a gate line 21
 abbrev pub mostListing : ℕ
 mostListing = 61 + 21 * mostGates
 
+-- no listing is longer than that
 abbrev pub ShortListing : Type 0
 ShortListing = (bytes : List ℕ) → length (listing bytes) ≤ mostListing

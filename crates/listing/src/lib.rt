@@ -20,7 +20,7 @@ pub const MOST_CARD: usize = card::HEAD + card::RECORD * card::MOST_CONDITIONS;
 // The bytes of the longest table.
 pub const MOST_TABLE: usize = RECORD * (MOST_GATES + 1);
 
-// The bytes of the longest listing: a summary of at most 61 and gate lines of at most 21.
+// Room for every listing: a summary has at most 61 bytes, a gate line 21.
 pub const MOST_LISTING: usize = 61 + 21 * MOST_GATES;
 
 // The name of a kind. This function and those below put a text at a place of out, and answer the place after it.

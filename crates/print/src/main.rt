@@ -9,7 +9,7 @@ ghost use Rattle.io.specs.Counts.{Counts};
 ghost use Rattle.listing.specs.Listing.{listing};
 ghost use Rattle.listing.specs.Promises.{mostCard};
 
-// One byte more than the longest card has, so that longer input is refused as longer.
+// One byte more than the longest card has: longer input is refused as these bytes are.
 const INPUT: usize = listing::MOST_CARD + 1;
 
 // Reads the input, as far as there is room.

@@ -1,25 +1,31 @@
--- What Build leaves, and what Build and Forecast turn away: 11 exactly for want of room, lent bytes kept on every refusal,
+-- What Build leaves, and what Build and Forecast turn away: 11 exactly for want of room and never for a card, lent bytes kept on every refusal,
 -- and the same refusals of a card by both.
 -- By the two cases of reading the card, and of the room.
 -- Assumes nothing.
-use mathlib.Core.Path.{_≡_, refl, sym}
+use mathlib.Core.Path.{_≡_, refl, sym, subst}
+use mathlib.Core.Bool.{Bool, true, false, not}
 use mathlib.Core.List.{List, _++_}
-use Prim.Native.Nat.{ℕ, _≤_, _<_}
+use mathlib.Core.Logic.{_≢_, _↔_}
+use Prim.Native.Nat.{ℕ, zero, suc, _+_, _*_, _≤_, _<_}
 use native.Mathlib.Omega.{arith}
 use native.Mathlib.Decide.{decLt}
 use borrow.Author.Tests.{lt-ltb, le-ltb}
-use lib.Dec.{ltb}
+use lib.Dec.{ltb, eqb}
 use lib.ListN.{length, drop}
 use lib.Seq.{take-at, drop-at}
-use Rattle.answer.specs.Outcome.{Answer, refused, accepted}
-use Rattle.answer.proofs.Outcome.{refused≢accepted, accepted-keeps, refuse-keeps, onAnswer-keeps}
+use Rattle.answer.specs.Outcome.{Answer, refused, accepted, unaltered, refuse, numbered}
+use Rattle.answer.proofs.Outcome.{refused≢accepted, accepted-keeps, refuse-keeps, onAnswer-keeps, Refuses, accepted-refuses, refuse-refuses, onAnswer-refuses, numbered-refuses}
+use Rattle.field.specs.Primes.{listed}
+use Rattle.digits.specs.Number.{mostDigits, wrongCount}
+use Rattle.circuit.specs.Bytes.{byte, wrongMark}
 use Rattle.circuit.specs.Report.{report}
-use Rattle.circuit.specs.Table.{tableBytes}
+use Rattle.circuit.specs.Table.{Table, tableBytes, wrongWeight}
 use Rattle.circuit.proofs.Reading.{table-length}
-use Rattle.query.specs.Card.{Card}
-use Rattle.query.specs.CardPromises.{RoomDecides, FillsExactly, RefusalKeeps, SameRefusal}
-use Rattle.query.specs.Outcomes.{tableRoom, building}
-use Rattle.query.specs.Reading.{readCard}
+use Rattle.comparison.specs.Relation.{relations}
+use Rattle.query.specs.Card.{Card, cardMark, conditionMark, wrongConditionCount, slotsOf}
+use Rattle.query.specs.CardPromises.{TurnedAway, RoomDecides, FillsExactly, RefusalKeeps, SameRefusal}
+use Rattle.query.specs.Outcomes.{tableRoom, writing, building, forecasting}
+use Rattle.query.specs.Reading.{readCondition, readConditions, readCard}
 use Rattle.query.specs.Whole.{tableOf}
 
 -- an accepted card with room
@@ -34,6 +40,41 @@ fills-exactly bytes lent card e room =
     let later = drop (tableRoom table) lent in
     rw (built bytes lent card e room)
     (take-at (tableBytes table) later (tableRoom table) (table-length table), drop-at (tableBytes table) later (tableRoom table) (table-length table))
+
+-- ---- the numbers of a card's rules
+
+abbrev Other : ℕ → Type 0
+Other number = number ≢ 11
+
+conditions-other : (slot count : ℕ) (bytes : List ℕ) → Refuses Other (readConditions slot count bytes)
+unfolding readConditions
+conditions-other slot zero bytes = accepted-refuses
+conditions-other slot (suc count) bytes =
+    onAnswer-refuses (readCondition slot bytes)
+    (refuse-refuses (wrongMark conditionMark bytes) 2 (λ e. omega arith)
+    (onAnswer-refuses (numbered 8 (byte bytes 2) relations) (numbered-refuses 8 (byte bytes 2) relations (λ e. omega arith)) (λ relation.
+    refuse-refuses (wrongCount (byte bytes 3)) 9 (λ e. omega arith) accepted-refuses)))
+    (λ c.
+    onAnswer-refuses (readConditions (slot + c .digits) count (drop 4 bytes))
+    (conditions-other (slot + c .digits) count (drop 4 bytes)) (λ cs. accepted-refuses))
+
+card-other : (bytes : List ℕ) → Refuses Other (readCard bytes)
+card-other bytes =
+    let count = byte bytes 4 in
+    refuse-refuses (ltb (length bytes) 6) 1 (λ e. omega arith)
+    (refuse-refuses (wrongMark cardMark bytes) 2 (λ e. omega arith)
+    (refuse-refuses (not (listed (byte bytes 2))) 3 (λ e. omega arith)
+    (refuse-refuses (wrongWeight (byte bytes 3)) 4 (λ e. omega arith)
+    (refuse-refuses (not (eqb (byte bytes 5) 0)) 5 (λ e. omega arith)
+    (refuse-refuses (wrongConditionCount count) 6 (λ e. omega arith)
+    (refuse-refuses (not (eqb (length bytes) (6 + 4 * count))) 7 (λ e. omega arith)
+    (onAnswer-refuses (readConditions 0 count (drop 6 bytes)) (conditions-other 0 count (drop 6 bytes)) (λ cs.
+    refuse-refuses (ltb mostDigits (slotsOf cs)) 10 (λ e. omega arith) accepted-refuses))))))))
+
+pub turned-away : TurnedAway
+turned-away bytes lent number e = (rw e, card-other bytes .number number e)
+
+-- ---- room
 
 pub room-decides : RoomDecides
 room-decides bytes lent card e = (
@@ -51,9 +92,21 @@ pub refusal-keeps : RefusalKeeps
 refusal-keeps bytes lent =
     onAnswer-keeps (readCard bytes) (λ card. refuse-keeps (ltb (length lent) (tableRoom (tableOf card))) 11 accepted-keeps)
 
-pub same-refusal : SameRefusal
-same-refusal bytes lent number h = go (readCard bytes) refl
+-- Build refuses an accepted card with 11 only
+only-room : (lent : List ℕ) (table : Table) (number : ℕ) → writing lent table .answer ≡ refused number → number ≡ 11
+only-room lent table number h = go (ltb (length lent) (tableRoom table)) h
   where
-    go : (r : Answer Card) → readCard bytes ≡ r → building bytes lent .answer ≡ refused number
-    go (refused k) e = rw e (let same : refused k ≡ refused number = rw e at h in cc)
-    go (accepted card) e = absurd (refused≢accepted (sym (rw e at h)))
+    go : (short : Bool) → refuse short (unaltered lent 11) (record { answer = accepted (report table); lent = tableBytes table ++ drop (tableRoom table) lent }) .answer ≡ refused number
+        → number ≡ 11
+    go true h = cc
+    go false h = absurd (refused≢accepted (sym h))
+
+pub same-refusal : SameRefusal
+same-refusal bytes lent number = go (readCard bytes) refl
+  where
+    go : (r : Answer Card) → readCard bytes ≡ r
+        → (forecasting bytes ≡ refused number) ↔ ((building bytes lent .answer ≡ refused number) × (number ≢ 11))
+    go (refused k) e =
+        rw e (λ h. (h, let same : k ≡ number = cc in subst Other same (card-other bytes .number k e)), λ h. h .0)
+    go (accepted card) e =
+        rw e (λ h. absurd (refused≢accepted (sym h)), λ h. absurd (h .1 (only-room lent (tableOf card) number (h .0))))

@@ -4,14 +4,14 @@
 -- Assumes nothing.
 use mathlib.Core.Path.{_≡_, refl, sym, ap, _∙_}
 use mathlib.Core.Bool.{Bool, true}
-use mathlib.Core.List.{List, [], map, map-map, append-nil}
+use mathlib.Core.List.{List, [], _++_, map, map-map, append-nil}
 use Prim.Native.Nat.{ℕ, suc, _-_, _*_, _%_, _^_, _≤_, _<_}
 use native.Mathlib.Omega.{arith}
 use native.Mathlib.Nat.{le-refl, zero-add, mod-eq-of-lt}
 use borrow.Author.Tests.{ltb-false}
 use lib.Dec.{ltb}
 use lib.ListN.{length, length-append, drop}
-use Rattle.answer.specs.Outcome.{Answer, accepted, Outcome, unaltered}
+use Rattle.answer.specs.Outcome.{accepted, Outcome, unaltered}
 use Rattle.answer.specs.Report.{Report}
 use Rattle.answer.proofs.Outcome.{passed, accepted-same}
 use Rattle.field.specs.Bit.{bit}
@@ -38,8 +38,8 @@ use Rattle.circuit.proofs.Count.{count-append, all-counted}
 use Rattle.circuit.proofs.Every.{every-map, every-map₂, map-same}
 use Rattle.circuit.proofs.Fitting.{fit-append}
 use Rattle.circuit.proofs.Kraft.{at-least}
-use Rattle.circuit.proofs.ProductTree.{tree-last, product-fits, product-count, product-value, product-depth}
-use Rattle.circuit.proofs.Promises.{reads-back, checks-tables, trims-tables, run-accepts}
+use Rattle.circuit.proofs.ProductTree.{least-first, tree-last, product-fits, product-count, product-value, product-depth}
+use Rattle.circuit.proofs.Promises.{table-reads-back, checks-tables, trims-tables, runs-tables, run-accepts}
 use Rattle.circuit.proofs.TreeDepth.{tree-depth}
 use Rattle.circuit.proofs.WellFormed.{is-well-formed}
 use Rattle.comparison.specs.Condition.{Condition}
@@ -49,7 +49,7 @@ use Rattle.query.specs.Card.{Card, slotsOf}
 use Rattle.query.specs.Formulas.{overConditions, gateCount, depthFormula, productCount, squareCount, costSum}
 use Rattle.query.specs.Holds.{allHold}
 use Rattle.query.specs.Outcomes.{tableRoom}
-use Rattle.query.specs.Promises.{gatesOf, RightAnswer, ExactDepth, outputGates, OutputsAreLast, CardOutput, NoShallowerTree, BoundedCost, ExactCost, ExactCounts, ExactSize, SameReport, ReportedNumbers, TrimsToTable, RunsTheTable, RightRun, BuiltRun, Built, BuildsWithRoom, BuiltValue, BuiltDepth, BuiltCost}
+use Rattle.query.specs.Promises.{gatesOf, RightAnswer, ExactDepth, outputGates, OutputsAreLast, CardTree, CardOutput, NoShallowerTree, BoundedCost, ExactCost, ExactCounts, ExactSize, SameReport, ReportedNumbers, TrimsToTable, RunsTheTable, RightRun, SameRun, BuiltRun, Built, BuildsWithRoom, BuiltValue, BuiltDepth, BuiltCost}
 use Rattle.query.specs.Reading.{readCard}
 use Rattle.query.specs.Whole.{Draft, begin, treeOf, filled, tableOf}
 use Rattle.query.proofs.Building.{built}
@@ -243,6 +243,10 @@ pub outputs-are-last : OutputsAreLast
 outputs-are-last bytes card e =
     all-last (tableOf card .head) (three bytes card e) (odd bytes card e) begin (card .conditions) (good bytes card e)
 
+pub card-tree : CardTree
+card-tree bytes card e =
+    least-first (length (filled card .gates)) (filled card .outputs) (some bytes card e) (sound bytes card e .order)
+
 pub card-output : CardOutput
 card-output bytes card e = (
   output-last bytes card e,
@@ -303,15 +307,22 @@ right-run bytes later left right work card e l r enough =
     runs-the-table bytes later left right work card e (l .0) (r .0) hl hr enough
     ∙ ap accepted (right-answer bytes left right card e l r)
 
--- what Trim hands back is the table's bytes, and nothing stands after them
+pub same-run : SameRun
+same-run bytes lent left right work card e room =
+    let table = tableOf card in
+    let run : List ℕ → Outcome ℕ = λ given. running given left right work in
+    let alone = ap run (append-nil (tableBytes table)) in
+    let same : (later : List ℕ) → run (tableBytes table ++ later) ≡ run (tableBytes table)
+    = λ later.
+    runs-tables table later left right work (formed bytes card e) ∙ sym (runs-tables table [] left right work (formed bytes card e)) ∙ alone in
+    (rw (built bytes lent card e room) (same (drop (tableRoom table) lent)), ap run (trims-to-table bytes lent card e room))
+
 pub built-run : BuiltRun
 built-run bytes lent left right work card e room l r enough =
     let table = tableOf card in
-    let answer : List ℕ → Answer ℕ = λ given. running given left right work .answer in (
-      rw (built bytes lent card e room) (right-run bytes (drop (tableRoom table) lent) left right work card e l r enough),
-      ap answer (trims-to-table bytes lent card e room ∙ sym (append-nil (tableBytes table)))
-          ∙ right-run bytes [] left right work card e l r enough,
-    )
+    let both = same-run bytes lent left right work card e room in
+    let alone = ap (λ given. running given left right work .answer) (sym (append-nil (tableBytes table))) ∙ right-run bytes [] left right work card e l r enough in
+    (ap (λ (o : Outcome ℕ). o .answer) (both .0) ∙ alone, ap (λ (o : Outcome ℕ). o .answer) (both .1) ∙ alone)
 
 -- ---- Build's outcome
 
@@ -319,7 +330,7 @@ pub builds-with-room : BuildsWithRoom
 builds-with-room bytes lent card e room =
     let table = tableOf card in
     let b = built bytes lent card e room in
-    (e, ap (λ (o : Outcome Report). o .answer) b, rw b (reads-back table (drop (tableRoom table) lent) (formed bytes card e)))
+    (e, ap (λ (o : Outcome Report). o .answer) b, rw b (table-reads-back table (drop (tableRoom table) lent) (formed bytes card e)))
 
 -- a report is answered only with room, and then it is that of the card's table, which the bytes left hold
 built-is : (bytes lent : List ℕ) (card : Card) (told : Report) (table : Table) → Built bytes lent card told table

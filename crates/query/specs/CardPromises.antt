@@ -1,6 +1,6 @@
 -- What is proved of what Build and Forecast take, leave and turn away (demand 1). Proved in `proofs/Reading.antt` and `proofs/Building.antt`.
 use mathlib.Core.Path.{_≡_}
-use mathlib.Core.Logic.{_↔_}
+use mathlib.Core.Logic.{_≢_, _↔_}
 use mathlib.Core.Bool.{true}
 use mathlib.Core.List.{List}
 use Prim.Native.Nat.{ℕ, _≤_, _<_}
@@ -21,6 +21,13 @@ abbrev pub OnlyCards : Type 0
 OnlyCards =
     (bytes : List ℕ) (card : Card) → readCard bytes ≡ accepted card → (keepsRules card ≡ true) × (bytes ≡ cardBytes card)
 
+-- "a card is accepted where none of Build's numbers but perhaps 11 turns it away": any other is turned away by a number that is not 11,
+-- whatever is lent
+abbrev pub TurnedAway : Type 0
+TurnedAway =
+    (bytes lent : List ℕ) (number : ℕ) → readCard bytes ≡ refused number
+    → (building bytes lent .answer ≡ refused number) × (number ≢ 11)
+
 -- 11 exactly where an accepted card's table has no room
 abbrev pub RoomDecides : Type 0
 RoomDecides =
@@ -38,7 +45,8 @@ FillsExactly =
 abbrev pub RefusalKeeps : Type 0
 RefusalKeeps = (bytes lent : List ℕ) → Keeps lent (building bytes lent)
 
--- Forecast: "the same answers from the card only, without 11"
+-- Forecast: "the same answers from the card only, without 11": it refuses exactly as Build does, whatever is lent, but for 11
 abbrev pub SameRefusal : Type 0
 SameRefusal =
-    (bytes lent : List ℕ) (number : ℕ) → forecasting bytes ≡ refused number → building bytes lent .answer ≡ refused number
+    (bytes lent : List ℕ) (number : ℕ)
+    → (forecasting bytes ≡ refused number) ↔ ((building bytes lent .answer ≡ refused number) × (number ≢ 11))

@@ -22,6 +22,7 @@ use Rattle.circuit.specs.Report.{report}
 use Rattle.circuit.specs.Segment.{Node}
 use Rattle.circuit.specs.Table.{Table, tableBytes, wellFormed, mostGates}
 use Rattle.circuit.specs.Tree.{Tree, leaves, height}
+use Rattle.circuit.specs.TreePromises.{TwoLeast}
 use Rattle.circuit.specs.Value.{values}
 use Rattle.comparison.specs.Condition.{Condition}
 use Rattle.comparison.specs.Formulas.{conditionCost, costSummand}
@@ -55,13 +56,19 @@ ExactDepth = (bytes : List ℕ) (card : Card) → readCard bytes ≡ accepted ca
 abbrev pub outputGates : Card → List ℕ
 outputGates card = map (λ (f : Node). f .gate) (filled card .outputs)
 
--- "A condition's output is the last gate that it writes.": one condition's gates come after the other's
+-- "A condition's output is the last gate that it writes.": each condition's gates follow those before it, as many as document 01 counts
 abbrev pub OutputsAreLast : Type 0
 OutputsAreLast =
     (bytes : List ℕ) (card : Card) → readCard bytes ≡ accepted card
     → outputGates card ≡ lastGates (card .prime) 0 (card .conditions)
 
--- the card's output, which the product tree over them leaves, is the table's last gate, and its node tells the table's depth
+-- "then the product tree over their outputs", by the rule for product trees
+abbrev pub CardTree : Type 0
+CardTree =
+    (bytes : List ℕ) (card : Card) → readCard bytes ≡ accepted card
+    → TwoLeast (length (filled card .gates)) (filled card .outputs) (treeOf (filled card) .gates) (treeOf (filled card) .output)
+
+-- the card's output, which the product tree over the condition outputs leaves, is the table's last gate, and its node tells the table's depth
 abbrev pub CardOutput : Type 0
 CardOutput =
     (bytes : List ℕ) (card : Card) → readCard bytes ≡ accepted card
@@ -141,7 +148,15 @@ RightRun =
     → running (tableBytes (tableOf card) ++ later) left right work .answer
     ≡ accepted (bit (allHold (base (card .prime)) left right (card .conditions)))
 
--- from the card's bytes to the answer: Build, then Run on all that it left, or on the part of it that Trim hands back
+-- Run on all that Build left, and on the part of it that Trim hands back, is Run on the table alone: the same answer and the same work bytes
+abbrev pub SameRun : Type 0
+SameRun =
+    (bytes lent left right work : List ℕ) (card : Card) → readCard bytes ≡ accepted card → tableRoom (tableOf card) ≤ length lent
+    → let alone = running (tableBytes (tableOf card)) left right work in
+    (running (building bytes lent .lent) left right work ≡ alone)
+    × (running (trimming (building bytes lent .lent)) left right work ≡ alone)
+
+-- so from the card's bytes to the yes or no: Build, then Run, with Trim between them or without
 abbrev pub BuiltRun : Type 0
 BuiltRun =
     (bytes lent left right work : List ℕ) (card : Card) → readCard bytes ≡ accepted card → tableRoom (tableOf card) ≤ length lent

@@ -1,4 +1,5 @@
-// The lines of a case script: words, numbers and lists, and the command that a line gives.
+// The lines of a case script: words, numbers and lists, and the command that a line gives. Proved of
+// them are safety and bounds; what they answer is compared.
 ghost use Prim.Native.Nat.{_≤_, _<_, min};
 ghost use lib.ListN.{length};
 ghost use Rattle.io.specs.Counts.{Counts};

@@ -1,6 +1,6 @@
-// The operations for programs in Rust and C, over numbers and bytes. Each answers 0 on success and
-// on success only, else the number of its refusal, which leaves every lent number and byte as it was.
-// Trim turns nothing away and answers a length.
+// The operations for programs in Rust and C, over numbers and bytes. Each but Trim answers 0 on success
+// and on success only, else the number of its refusal, which leaves every lent number and byte as it
+// was. Trim turns nothing away and answers a length.
 use coding::Decoded;
 use coding::Encoded;
 use forecast::forecast;

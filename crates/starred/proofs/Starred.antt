@@ -20,8 +20,12 @@ use Rattle.comparison.specs.OrderDigit.{ascending, powerGate, laterTerms}
 use Rattle.comparison.specs.Writing.{equalityFactors, conditionSegment}
 use Rattle.query.specs.Reading.{readConditions}
 use Rattle.query.specs.Whole.{addAll}
-use Rattle.starred.specs.Starred.{starred, StarredCases}
+use Rattle.starred.specs.Starred.{starred, StarredCases, FullRangeRun}
 
 pub starred-cases : StarredCases
 unfolding starred orderConstants listed member primes number sum allBelow digitsOf readConditions total addAll conditionSegment digitsFrom ascending powerGate laterTerms chain ones halves joinLowest equalityFactors multiply least flog clog counted count interpret gatesBytes readGates residue
 starred-cases = refl
+
+pub full-range-run : FullRangeRun
+unfolding orderConstants listed member primes number sum allBelow digitsOf readConditions total addAll conditionSegment digitsFrom ascending powerGate laterTerms chain ones halves joinLowest equalityFactors multiply least flog clog counted count interpret gatesBytes readGates residue
+full-range-run = refl

@@ -1,4 +1,5 @@
--- The cases that document 01 marks with *, as one table: what the definitions give, beside what the document says. Proved in `proofs/Starred.antt`.
+-- The cases that document 01 marks with *, as one table: what the definitions give, beside what the document says; and its first wrong turn.
+-- Proved in `proofs/Starred.antt`.
 use Prim.Native.Nat.{ℕ}
 use mathlib.Core.Path.{_≡_}
 use mathlib.Core.List.{List, [], _∷_, _++_, map}
@@ -126,6 +127,11 @@ starred =
     ∷ row (turnedAway (card 3 75 1 17)) (refused 9)
     ∷ row (turnedAway (pair 3 75 1 8 1 9)) (refused 10)
     ∷ []
+
+-- document 01's first wrong turn: "Digits up to p-1: p=5, 0 < 3 comes out 0.", of the table that Build writes
+abbrev pub FullRangeRun : Type 0
+FullRangeRun =
+    single (running (build (card 5 100 1 1) 96 .lent) (0 ∷ []) (3 ∷ []) (replicate 11 9) .answer) ≡ accepted (0 ∷ [])
 
 -- every case comes out as document 01 says
 abbrev pub StarredCases : Type 0
