@@ -54,9 +54,7 @@ conditions-other slot (suc count) bytes =
     (refuse-refuses (wrongMark conditionMark bytes) 2 (λ e. omega arith)
     (onAnswer-refuses (numbered 8 (byte bytes 2) relations) (numbered-refuses 8 (byte bytes 2) relations (λ e. omega arith)) (λ relation.
     refuse-refuses (wrongCount (byte bytes 3)) 9 (λ e. omega arith) accepted-refuses)))
-    (λ c.
-    onAnswer-refuses (readConditions (slot + c .digits) count (drop 4 bytes))
-    (conditions-other (slot + c .digits) count (drop 4 bytes)) (λ cs. accepted-refuses))
+    (λ c. onAnswer-refuses _ (conditions-other _ count (drop 4 bytes)) (λ cs. accepted-refuses))
 
 card-other : (bytes : List ℕ) → Refuses Other (readCard bytes)
 card-other bytes =
