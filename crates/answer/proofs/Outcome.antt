@@ -19,6 +19,12 @@ pub passed : {R A : Type 0} {k : ℕ} {a : A} (answer : R → Answer A) (test : 
 passed answer true refusal later r e = absurd (refused≢accepted (sym r ∙ e))
 passed answer false refusal later r e = (refl, e)
 
+-- where nothing is refused after a rule, a refusal is that rule's
+pub only-rule : {A : Type 0} {a : A} (bytes : List ℕ) (test : Bool) (k number : ℕ) (later : Outcome A) → later .answer ≡ accepted a
+    → refuse test (unaltered bytes k) later .answer ≡ refused number → number ≡ k
+only-rule bytes true k number later r e = cc
+only-rule bytes false k number later r e = absurd (refused≢accepted (sym e ∙ r))
+
 pub said : {A : Type 0} {o line : Outcome A} → o ≡ line → (line .answer ≡ o .answer) × (line .lent ≡ o .lent)
 said e = (ap (λ o. o .answer) (sym e), ap (λ o. o .lent) (sym e))
 

@@ -1,24 +1,16 @@
--- Each entry is its gate's meaning, and so the values meet the equation of every gate: the operations modulo p are sum, difference and product.
+-- The values meet the equation of every gate: each is the meaning of its gate, and the operations modulo p are sum, difference and product.
 -- Assumes nothing.
-use mathlib.Core.Path.{_≡_, refl, ap, _∙_}
+use mathlib.Core.Path.{_≡_, ap, _∙_}
 use mathlib.Core.List.{List, [], _∷_}
 use Prim.Native.Nat.{ℕ, suc, _+_, _<_}
-use native.Mathlib.Nat.{mod-mod, zero-add}
+use native.Mathlib.Nat.{mod-mod}
 use Rattle.field.proofs.Modular.{mod-same, addMod-is, mulMod-is, sub-add}
 use Rattle.circuit.specs.Constant.{constant}
 use Rattle.circuit.specs.Equations.{Equation, Equations, GateValues}
 use Rattle.circuit.specs.Gate.{Gate, Left, Right, Add, Sub, Scale, Flip, Mul}
 use Rattle.circuit.specs.Meaning.{meaning, entryAt, Solves}
-use Rattle.circuit.specs.Promises.{EachItsMeaning, EntriesKept}
 use Rattle.circuit.specs.Value.{values}
-use Rattle.circuit.proofs.Fitting.{all-named}
-use Rattle.circuit.proofs.Meaning.{interpret-length, solved, earlier-kept}
-
-pub each-its-meaning : EachItsMeaning
-each-its-meaning A alg head gates t = (interpret-length alg [] gates ∙ zero-add _, solved alg gates [] 0 refl (all-named head 0 gates t))
-
-pub entries-kept : EntriesKept
-entries-kept A alg gates later k l = earlier-kept alg gates later k l
+use Rattle.circuit.proofs.Meaning.{each-its-meaning}
 
 module _ (p : ℕ) (left right : List ℕ) (some : 0 < p) (E : ℕ → ℕ) where
   equation : (k : ℕ) (g : Gate) → E k ≡ meaning (values p left right) E g → Equation p left right E k g

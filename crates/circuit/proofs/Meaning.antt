@@ -6,12 +6,13 @@ use mathlib.Core.Path.{_≡_, refl, sym, ap, ap₂, subst, _∙_}
 use mathlib.Core.List.{List, [], _∷_, _++_}
 use Prim.Native.Nat.{ℕ, suc, _+_, _<_}
 use native.Mathlib.Omega.{arith}
-use native.Mathlib.Nat.{add-zero, add-suc, suc-add}
+use native.Mathlib.Nat.{zero-add, add-zero, add-suc, suc-add}
 use lib.ListN.{length, length-append, List·getD-append}
 use lib.Seq.{getD-at}
 use Rattle.circuit.specs.Gate.{Gate, Left, Right, Add, Sub, Scale, Flip, Mul}
 use Rattle.circuit.specs.Meaning.{Algebra, meaning, entryOf, interpret, entries, entryAt, Solves}
-use Rattle.circuit.proofs.Fitting.{Named, AllNamed}
+use Rattle.circuit.specs.Promises.{EachItsMeaning, EntriesKept}
+use Rattle.circuit.proofs.Fitting.{Named, AllNamed, all-named}
 
 module _ {A : Type 0} (alg : Algebra A) where
   abbrev next : List A → Gate → List A
@@ -71,13 +72,15 @@ module _ {A : Type 0} (alg : Algebra A) where
 
   -- ---- gates written after others
 
-  -- the entries of all gates keep those of the earlier ones
-  pub earlier-kept : (gates later : List Gate) (i : ℕ) → i < length gates → entryAt alg (gates ++ later) i ≡ entryAt alg gates i
-  earlier-kept gates later i h =
-      rw (interpret-append [] gates later) (kept (entries alg gates) later i (omega (arith, interpret-length [] gates)))
-
-  -- and solve the later ones
+  -- the entries of all gates solve the later ones
   pub later-solved : (gates later : List Gate) → AllNamed (length gates) later → Solves alg (entryAt alg (gates ++ later)) (length gates) later
   later-solved gates later n =
       subst (λ (all : List A). Solves alg (entryOf alg all) (length gates) later) (sym (interpret-append [] gates later))
       (solved later (entries alg gates) (length gates) (omega (arith, interpret-length [] gates)) n)
+
+pub each-its-meaning : EachItsMeaning
+each-its-meaning A alg head gates t = (interpret-length alg [] gates ∙ zero-add _, solved alg gates [] 0 refl (all-named head 0 gates t))
+
+pub entries-kept : EntriesKept
+entries-kept A alg gates later k l =
+    rw (interpret-append alg [] gates later) (kept alg (entries alg gates) later k (omega (arith, interpret-length alg [] gates)))

@@ -24,7 +24,7 @@ use Rattle.circuit.specs.Value.{values}
 use Rattle.circuit.proofs.Choosing.{firstOf, secondOf, restOf, next, order-every, one-left, one-is, pair-is, next-same, next-length}
 use Rattle.circuit.proofs.Every.{every-map, every-map₂, map-same}
 use Rattle.circuit.proofs.Fitting.{AllNamed}
-use Rattle.circuit.proofs.Meaning.{earlier-kept, later-solved}
+use Rattle.circuit.proofs.Meaning.{later-solved, entries-kept}
 use Rattle.circuit.proofs.Rearranged.{same-every, same-product}
 use Rattle.circuit.proofs.TreeDepth.{tree-depth}
 
@@ -167,7 +167,7 @@ multiply-entry E (suc n) k factors e h known =
 factors-kept : {A : Type 0} (alg : Algebra A) (gates later : List Gate) (factors : List Node) → InOrder 0 (length gates) factors
     → Every (λ (f : Node). entryAt alg (gates ++ later) (f .gate) ≡ entryAt alg gates (f .gate)) factors
 factors-kept alg gates later factors h =
-    every-map (λ (f : Node) bounds. earlier-kept alg gates later (f .gate) (bounds .1)) factors (order-every 0 (length gates) factors h)
+    every-map (λ (f : Node) bounds. entries-kept _ alg gates later (f .gate) (bounds .1)) factors (order-every 0 (length gates) factors h)
 
 pub product-value : ProductValue
 product-value p left right gates factors positive some h =

@@ -1,6 +1,6 @@
 -- What is proved of gate tables, for every p and any number of gates: reading back, what a refusal leaves, what gates mean, and bounds.
 -- Proved in `proofs/Promises.antt`, `proofs/Reading.antt`, `proofs/Later.antt`, `proofs/Bytes.antt`, `proofs/Unaltered.antt`,
--- `proofs/Equations.antt` and `proofs/Bounds.antt`.
+-- `proofs/Meaning.antt` and `proofs/Bounds.antt`.
 use mathlib.Core.Path.{_≡_}
 use mathlib.Core.Logic.{_↔_}
 use mathlib.Core.Bool.{true}

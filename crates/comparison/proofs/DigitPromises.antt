@@ -17,7 +17,7 @@ use Rattle.circuit.proofs.Fitting.{all-named}
 use Rattle.circuit.proofs.Meaning.{later-solved}
 use Rattle.comparison.specs.Condition.{Condition}
 use Rattle.comparison.specs.Difference.{difference, zGate}
-use Rattle.comparison.specs.DigitPromises.{firstDigit, secondDigit, InBase, DigitsFollow, TermPowers, OrderDigitHolds, OrderDigitDepth, EqualityDigitHolds, EqualityDigitDepth, EqualityDigitCounts}
+use Rattle.comparison.specs.DigitPromises.{firstDigit, secondDigit, InBase, DigitsFollow, TermPowers, OrderDigitHolds, OrderDigitDepth, EqualityDigitHolds, EqualityDigitDepth}
 use Rattle.comparison.specs.Digits.{digitGates}
 use Rattle.comparison.specs.EqualityDigit.{zeroGates}
 use Rattle.comparison.specs.OrderDigit.{equalGate}
@@ -25,7 +25,6 @@ use Rattle.comparison.specs.Relation.{isOrder}
 use Rattle.comparison.specs.Writing.{digitDepth}
 use Rattle.comparison.proofs.Digits.{digit-next, start-first, digit-fits}
 use Rattle.comparison.proofs.DigitTests.{powers-of, less-is, zero-is, equal-is, less-deep, zero-deep, equal-deep}
-use Rattle.comparison.proofs.EqualityDigit.{zero-count}
 
 -- a digit's gates name only earlier ones, so their entries solve them
 digit-solved : {A : Type 0} (alg : Algebra A) (p : ℕ) (gates : List Gate) (c : Condition) (j : ℕ) → 3 ≤ p → p % 2 ≡ 1
@@ -93,6 +92,3 @@ equality-digit-depth p gates c j three odd order =
     let k = length gates in
     let E = entryAt depths (gates ++ digitGates p c j k) in
     ap E (zero-last p gates c j order) ∙ zero-deep p three odd E c k j (digit-solved depths p gates c j three odd) order
-
-pub equality-digit-counts : EqualityDigitCounts
-equality-digit-counts p k two = let counts = zero-count p k two in (counts .1, counts .0)

@@ -24,7 +24,7 @@ use Rattle.comparison.specs.Difference.{minus, difference, zGate}
 use Rattle.comparison.specs.Digits.{tests, digitGates, digitsBefore, digitStart, digitsFrom}
 use Rattle.comparison.specs.OrderDigit.{half, lessGates, equalGates, equalGate}
 use Rattle.comparison.specs.Relation.{isOrder, isBackward}
-use Rattle.comparison.proofs.EqualityDigit.{zero-length, zero-fits, zero-count}
+use Rattle.comparison.proofs.EqualityDigit.{zero-length, zero-fits, equality-digit-counts}
 use Rattle.comparison.proofs.OrderDigit.{less-length, less-count, less-fits, equal-fits}
 
 -- the digits that are left: the next one, and those after it
@@ -156,7 +156,7 @@ module _ (p : ℕ) (three : 3 ≤ p) (odd : p % 2 ≡ 1) where
         omega (arith, count-append isProduct (lessGates p k) (equalGates p j k), less .0, equal .0),
         omega (arith, count-append isSquare (lessGates p k) (equalGates p j k), less .1, equal .1),
       )
-  tests-count false j k = zero-count p k (omega arith)
+  tests-count false j k = let counts = equality-digit-counts p k (omega arith) in (counts .1, counts .0)
 
   minus-count : (b : Bool) (k : ℕ) → (bit (isProduct (minus b k)) ≡ 0) × (bit (isSquare (minus b k)) ≡ 0)
   minus-count true k = (refl, refl)

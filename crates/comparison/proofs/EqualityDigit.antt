@@ -24,6 +24,7 @@ use Rattle.circuit.specs.Value.{values}
 use Rattle.circuit.proofs.Fitting.{AllFitted, all-fit}
 use Rattle.comparison.specs.Bits.{bits, setBits, ones}
 use Rattle.comparison.specs.Difference.{zGate}
+use Rattle.comparison.specs.DigitPromises.{EqualityDigitCounts}
 use Rattle.comparison.specs.EqualityDigit.{Collected, nothing, power, heldBy, chain, zeroChain, zeroGates}
 use Rattle.comparison.proofs.Bits.{bits-length, worth, bits-worth, ones-some}
 
@@ -216,10 +217,9 @@ start-count [] k z l some = absurd (omega arith)
 start-count (false ∷ bs) k z l some = omega (arith, chain-count bs k z nothing l)
 start-count (true ∷ bs) k z l some = omega (arith, chain-count bs k z (power z) l)
 
-pub zero-count : (p k : ℕ) → 2 ≤ p
-    → (count isProduct (zeroGates p k) ≡ ones (p - 1) - 1) × (count isSquare (zeroGates p k) ≡ flog (p - 1))
+pub equality-digit-counts : EqualityDigitCounts
 unfolding ones
-zero-count p k h =
+equality-digit-counts p k h =
     let t = p - 1 in
     let some : 1 ≤ t = omega arith in
     omega (arith, start-count (bits t) (suc (zGate k)) (zGate k) (le-refl _) (ones-some t some), bits-length t some)

@@ -1,5 +1,5 @@
 -- What is proved of the digits of a condition and of one digit's tests, for every odd prime p, written after any gates.
--- Proved in `proofs/DigitPromises.antt`.
+-- Proved in `proofs/DigitPromises.antt` and `proofs/EqualityDigit.antt`.
 use mathlib.Core.Path.{_≡_}
 use mathlib.Core.Bool.{true, false}
 use mathlib.Core.List.{List, _++_}

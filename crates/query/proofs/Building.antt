@@ -3,7 +3,7 @@
 -- By the two cases of reading the card, and of the room.
 -- Assumes nothing.
 use mathlib.Core.Path.{_≡_, refl, sym, subst}
-use mathlib.Core.Bool.{Bool, true, false, not}
+use mathlib.Core.Bool.{not}
 use mathlib.Core.List.{List, _++_}
 use mathlib.Core.Logic.{_≢_, _↔_}
 use Prim.Native.Nat.{ℕ, zero, suc, _+_, _*_, _≤_, _<_}
@@ -13,18 +13,18 @@ use borrow.Author.Tests.{lt-ltb, le-ltb}
 use lib.Dec.{ltb, eqb}
 use lib.ListN.{length, drop}
 use lib.Seq.{take-at, drop-at}
-use Rattle.answer.specs.Outcome.{Answer, refused, accepted, unaltered, refuse, numbered}
-use Rattle.answer.proofs.Outcome.{refused≢accepted, accepted-keeps, refuse-keeps, onAnswer-keeps, Refuses, accepted-refuses, refuse-refuses, onAnswer-refuses, numbered-refuses}
+use Rattle.answer.specs.Outcome.{Answer, refused, accepted, numbered}
+use Rattle.answer.proofs.Outcome.{refused≢accepted, only-rule, accepted-keeps, refuse-keeps, onAnswer-keeps, Refuses, accepted-refuses, refuse-refuses, onAnswer-refuses, numbered-refuses}
 use Rattle.field.specs.Primes.{listed}
 use Rattle.digits.specs.Number.{mostDigits, wrongCount}
 use Rattle.circuit.specs.Bytes.{byte, wrongMark}
 use Rattle.circuit.specs.Report.{report}
-use Rattle.circuit.specs.Table.{Table, tableBytes, wrongWeight}
+use Rattle.circuit.specs.Table.{tableBytes, wrongWeight}
 use Rattle.circuit.proofs.Reading.{table-length}
 use Rattle.comparison.specs.Relation.{relations}
 use Rattle.query.specs.Card.{Card, cardMark, conditionMark, wrongConditionCount, slotsOf}
 use Rattle.query.specs.CardPromises.{TurnedAway, RoomDecides, FillsExactly, RefusalKeeps, SameRefusal}
-use Rattle.query.specs.Outcomes.{tableRoom, writing, building, forecasting}
+use Rattle.query.specs.Outcomes.{tableRoom, building, forecasting}
 use Rattle.query.specs.Reading.{readCondition, readConditions, readCard}
 use Rattle.query.specs.Whole.{tableOf}
 
@@ -90,15 +90,6 @@ pub refusal-keeps : RefusalKeeps
 refusal-keeps bytes lent =
     onAnswer-keeps (readCard bytes) (λ card. refuse-keeps (ltb (length lent) (tableRoom (tableOf card))) 11 accepted-keeps)
 
--- Build refuses an accepted card with 11 only
-only-room : (lent : List ℕ) (table : Table) (number : ℕ) → writing lent table .answer ≡ refused number → number ≡ 11
-only-room lent table number h = go (ltb (length lent) (tableRoom table)) h
-  where
-    go : (short : Bool) → refuse short (unaltered lent 11) (record { answer = accepted (report table); lent = tableBytes table ++ drop (tableRoom table) lent }) .answer ≡ refused number
-        → number ≡ 11
-    go true h = cc
-    go false h = absurd (refused≢accepted (sym h))
-
 pub same-refusal : SameRefusal
 same-refusal bytes lent number = go (readCard bytes) refl
   where
@@ -107,4 +98,7 @@ same-refusal bytes lent number = go (readCard bytes) refl
     go (refused k) e =
         rw e (λ h. (h, let same : k ≡ number = cc in subst Other same (card-other bytes .number k e)), λ h. h .0)
     go (accepted card) e =
-        rw e (λ h. absurd (refused≢accepted (sym h)), λ h. absurd (h .1 (only-room lent (tableOf card) number (h .0))))
+        rw e (
+          λ h. absurd (refused≢accepted (sym h)),
+          λ h. absurd (h .1 (only-rule lent (ltb (length lent) (tableRoom (tableOf card))) 11 number _ refl (h .0))),
+        )

@@ -28,7 +28,7 @@ use Rattle.circuit.proofs.Choosing.{firstOf, order-every, order-append}
 use Rattle.circuit.proofs.Count.{count-append}
 use Rattle.circuit.proofs.Every.{every-map, every-map₂, every-append, map-same}
 use Rattle.circuit.proofs.Fitting.{fit-append}
-use Rattle.circuit.proofs.Meaning.{earlier-kept}
+use Rattle.circuit.proofs.Meaning.{entries-kept}
 use Rattle.circuit.proofs.ProductTree.{left-over}
 use Rattle.circuit.proofs.Rearranged.{last-first, same-breadth, same-product}
 use Rattle.comparison.specs.Condition.{Condition, holds}
@@ -63,7 +63,7 @@ module _ (head : Head) (three : 3 ≤ head .prime) (odd : head .prime % 2 ≡ 1)
   pub outputs-kept : {A : Type 0} (alg : Algebra A) (draft : Draft) (later : List Gate) → Sound draft
       → Every (λ (f : Node). entryAt alg (draft .gates ++ later) (f .gate) ≡ entryAt alg (draft .gates) (f .gate)) (draft .outputs)
   outputs-kept alg draft later sound =
-      every-map (λ (f : Node) bounds. earlier-kept alg (draft .gates) later (f .gate) (bounds .1)) (draft .outputs)
+      every-map (λ (f : Node) bounds. entries-kept _ alg (draft .gates) later (f .gate) (bounds .1)) (draft .outputs)
       (order-every 0 (length (draft .gates)) (draft .outputs) (sound .order))
 
   add-sound : (draft : Draft) (c : Condition) → Sound draft → Good head c → Sound (add p draft c)
