@@ -1,5 +1,5 @@
 -- "Success answers G, products, squares, cost, depth" (document 01, "Operations and what they turn away").
-use Prim.Native.Nat.{ℕ}
+use Prim.Native.Nat.{ℕ, _+_, _*_}
 use Rattle.answer.specs.Numbers.{refusalNumber}
 use Rattle.answer.specs.Outcome.{Answer, refused, accepted}
 use Rattle.answer.specs.declared.Report as declared
@@ -12,6 +12,10 @@ pub record Report : Type 0 where
   pub squares : ℕ
   pub cost : ℕ
   pub depth : ℕ
+
+-- "Cost is 100 times the products plus s times the squares" (document 01, "Gate table"): of a weight, products and squares
+abbrev pub costOf : ℕ → ℕ → ℕ → ℕ
+costOf s products squares = 100 * products + s * squares
 
 -- the five values of a report in the code
 abbrev pub reportOf : declared.Report → Report

@@ -1,6 +1,7 @@
 // Arithmetic of the prime field: which primes are listed, the operations modulo p, logarithms.
 ghost use mathlib.Core.Path.{_≡_};
 ghost use Prim.Native.Nat.{_<_};
+ghost use Rattle.field.specs.Byte.{byteValues};
 ghost use Rattle.field.specs.Primes.{primes, member, listed};
 ghost use Rattle.field.specs.Modular.{residue, addMod, subMod, mulMod};
 ghost use Rattle.field.specs.Logarithm.{flog, clog};
@@ -153,7 +154,7 @@ pub fn ceil_log2(n: u16) -> u16
 }
 
 pub fn wide(x: u8) -> usize
-    ensures { λ r. ⌜ (r ≡ x) × (r < 256) ⌝ }
+    ensures { λ r. ⌜ (r ≡ x) × (r < byteValues) ⌝ }
 {
     x as usize
 }

@@ -1,80 +1,83 @@
 -- The conditions of a card written one after the other: what is known between two turns, and how a turn goes.
--- What is left to write gives all conditions' gates, and the outputs so far with those that are left give all outputs.
+-- What is written is a draft, and the conditions that are left make it the draft of all.
 -- Assumes nothing.
-use mathlib.Core.Path.{_≡_, refl, sym, ap, subst, _∙_}
+use mathlib.Core.Path.{_≡_, refl, sym, ap, ap₂, subst, _∙_}
 use mathlib.Core.Bool.{true, or-true}
-use mathlib.Core.List.{List, [], _∷_, _++_, append-assoc, append-nil}
+use mathlib.Core.List.{List, [], _∷_, _++_}
 use Prim.Native.Nat.{ℕ, _+_, _-_, _≤_, _<_, zero-le}
 use native.Mathlib.Omega.{arith}
 use native.Mathlib.Numerals.{add-one}
-use native.Mathlib.Nat.{sub-zero, zero-add}
+use native.Mathlib.Nat.{sub-zero}
 use lib.ListN.{length, take, set, length-append}
 use Rattle.answer.specs.Outcome.{accepted}
 use Rattle.answer.proofs.Outcome.{accepted-same}
+use Rattle.digits.specs.Number.{mostDigits}
 use Rattle.circuit.specs.Every.{Every}
 use Rattle.circuit.specs.Segment as segment
-use Rattle.comparison.specs.Condition.{Condition}
+use Rattle.comparison.specs.Condition.{Condition, HasSlots}
 use Rattle.comparison.specs.Relation.{isOrder}
+use Rattle.comparison.specs.Tests.{baseTests}
 use Rattle.comparison.specs.Writing.{conditionSegment}
 use Rattle.query.specs.Reading.{readCondition, readConditions}
+use Rattle.query.specs.Whole.{Draft, begin, add, addAll}
+use Rattle.query.proofs.Whole.{all-more}
 use Rattle.card.proofs.Conditions.{recordAt, lentAt}
 use Rattle.writer.specs.declared.Pen.{Pen}
 use Rattle.tree.specs.Factors.{nodes}
 use Rattle.writer.specs.Pen.{fresh, Wrote, Moved}
 use Rattle.tree.proofs.Factors.{added}
 use Rattle.writer.proofs.Writing.{none, same-gates, then}
-use Rattle.builder.specs.Conditions.{segments, outputsFrom, conditionsOf, anyOrder, Readable}
-use Rattle.condition.specs.Condition.{InSlots}
+use Rattle.builder.specs.Conditions.{conditionsOf, drafted, anyOrder, Readable}
 use Rattle.builder.proofs.Rest.{others, others-read, split}
 
 -- k records of count are written
 pub record Adds (p : ℕ) (records : List ℕ) (count : ℕ) (table₀ table : List ℕ) (pen : Pen) (slot k : ℕ) (gates depths : List ℕ) : Type 0 where
   pub most : k ≤ count
+  -- the draft that is written
+  pub draft : Draft
+  pub wrote : Wrote table₀ fresh (draft .gates) table pen
+  pub counts : (pen .products ≤ pen .next) × (pen .squares ≤ pen .next)
+  pub outputs : nodes (take k gates) (take k depths) ≡ draft .outputs
   -- the conditions that are left
   pub rest : List Condition
   pub reads : readConditions slot (count - k) (recordAt records k) ≡ accepted rest
-  pub each : Every InSlots rest
-  pub size : pen .next + length (segments p (pen .next) rest) ≡ length (segments p 0 (conditionsOf count records))
-  pub counts : (pen .products ≤ pen .next) × (pen .squares ≤ pen .next)
-  pub outputs : nodes (take k gates) (take k depths) ++ outputsFrom p (pen .next) rest ≡ outputsFrom p 0 (conditionsOf count records)
+  pub each : Every (λ (c : Condition). HasSlots mostDigits mostDigits c) rest
+  pub all : addAll (baseTests p) p draft rest ≡ drafted p (conditionsOf count records)
   -- an order condition that is left is one of all
   pub orders : anyOrder rest ≡ true → anyOrder (conditionsOf count records) ≡ true
-  pub writes : (table′ : List ℕ) (pen′ : Pen) → Wrote table pen (segments p (pen .next) rest) table′ pen′
-      → Wrote table₀ fresh (segments p 0 (conditionsOf count records)) table′ pen′
 
 pub begins : (p : ℕ) (records : List ℕ) (count : ℕ) (table gates depths : List ℕ) → Readable count records
     → Adds p records count table table fresh 0 0 gates depths
 unfolding nodes
 begins p records count table gates depths r = record {
   most = zero-le;
+  draft = begin;
+  wrote = none;
+  counts = (zero-le, zero-le);
+  outputs = refl;
   rest = conditionsOf count records;
   reads = rw (sub-zero count) (r .reads);
   each = r .each;
-  size = zero-add _;
-  counts = (zero-le, zero-le);
-  outputs = refl;
+  all = refl;
   orders = λ left. left;
-  writes = λ table′ pen′ w. w;
 }
 
 -- nothing is left
 pub ends : (p : ℕ) (records : List ℕ) (count : ℕ) (table₀ table : List ℕ) (pen : Pen) (slot k : ℕ) (gates depths : List ℕ) → count ≤ k
     → Adds p records count table₀ table pen slot k gates depths
-    → Wrote table₀ fresh (segments p 0 (conditionsOf count records)) table pen
-    × Moved fresh (length (segments p 0 (conditionsOf count records))) pen
-    × (nodes (take count gates) (take count depths) ≡ outputsFrom p 0 (conditionsOf count records))
-unfolding readConditions segments outputsFrom
+    → Wrote table₀ fresh (drafted p (conditionsOf count records) .gates) table pen
+    × Moved fresh (length (drafted p (conditionsOf count records) .gates)) pen
+    × (nodes (take count gates) (take count depths) ≡ drafted p (conditionsOf count records) .outputs)
+unfolding readConditions addAll
 ends p records count table₀ table pen slot k gates depths h a =
     let zero : count - k ≡ 0 = omega (arith, h) in
-    let all : k ≡ count = omega (arith, h, a .most) in
+    let last : k ≡ count = omega (arith, h, a .most) in
     let over : [] ≡ a .rest = accepted-same (rw zero at (a .reads)) in
-    let size : length (segments p (pen .next) (a .rest)) ≡ 0 = ap (λ (cs : List Condition). length (segments p (pen .next) cs)) (sym over) in (
-      a .writes table pen (same-gates (ap (segments p (pen .next)) over) none),
-      omega (arith, a .size, size, a .counts),
-      ap (λ (n : ℕ). nodes (take n gates) (take n depths)) (sym all)
-          ∙ sym (append-nil _)
-          ∙ ap (λ (cs : List Condition). nodes (take k gates) (take k depths) ++ outputsFrom p (pen .next) cs) over
-          ∙ a .outputs,
+    let whole : a .draft ≡ drafted p (conditionsOf count records) = ap (addAll (baseTests p) p (a .draft)) over ∙ a .all in
+    let w = same-gates (ap (λ (d : Draft). d .gates) whole) (a .wrote) in (
+      w,
+      (w .number, a .counts .0, a .counts .1),
+      ap (λ (n : ℕ). nodes (take n gates) (take n depths)) (sym last) ∙ a .outputs ∙ ap (λ (d : Draft). d .outputs) whole,
     )
 
 module _ (p : ℕ) (records : List ℕ) (count : ℕ) (table₀ table : List ℕ) (pen : Pen) (slot k : ℕ) (gates depths : List ℕ)
@@ -87,23 +90,40 @@ module _ (p : ℕ) (records : List ℕ) (count : ℕ) (table₀ table : List ℕ
     is-next : c ∷ after ≡ a .rest
     is-next = split records count slot k (a .rest) l (a .reads) c e
 
+    own-each : Every (λ (d : Condition). HasSlots mostDigits mostDigits d) (c ∷ after)
+    own-each = subst (Every (λ (d : Condition). HasSlots mostDigits mostDigits d)) (sym is-next) (a .each)
+
+    pub in-slots : HasSlots mostDigits mostDigits c
+    in-slots = own-each .0
+
     abbrev own : segment.Segment
     own = conditionSegment p c (pen .next)
 
-    pub in-slots : InSlots c
-    in-slots = (subst (Every InSlots) (sym is-next) (a .each)) .0
+    -- the pen stands after the draft
+    next-is : pen .next ≡ length (a .draft .gates)
+    next-is = a .wrote .number ∙ omega arith
 
-    -- its gates, and those after it
-    whole : segments p (pen .next) (a .rest) ≡ own .gates ++ segments p (pen .next + length (own .gates)) after
-    unfolding segments
-    whole = ap (segments p (pen .next)) (sym is-next)
+    own-is : own ≡ conditionSegment p c (length (a .draft .gates))
+    own-is = ap (conditionSegment p c) next-is
 
-    room : pen .next + length (own .gates) + length (segments p (pen .next + length (own .gates)) after)
-        ≡ length (segments p 0 (conditionsOf count records))
-    room = omega (arith, a .size, ap length whole ∙ length-append (own .gates) _)
+    -- with this condition, and with those after it
+    abbrev longer : Draft
+    longer = add (baseTests p) p (a .draft) c
 
-    pub fits : pen .next + length (own .gates) ≤ length (segments p 0 (conditionsOf count records))
-    fits = omega (arith, room)
+    all-after : addAll (baseTests p) p longer after ≡ drafted p (conditionsOf count records)
+    unfolding addAll
+    all-after = ap (addAll (baseTests p) p (a .draft)) is-next ∙ a .all
+
+    pub fits : pen .next + length (own .gates) ≤ length (drafted p (conditionsOf count records) .gates)
+    fits =
+        omega (
+          arith,
+          next-is,
+          ap (λ (s : segment.Segment). length (s .gates)) own-is,
+          length-append (a .draft .gates) (conditionSegment p c (length (a .draft .gates)) .gates),
+          all-more (baseTests p) p longer after,
+          ap (λ (d : Draft). length (d .gates)) all-after,
+        )
 
     -- the condition at hand is among all, and so are those after it
     pub own-order : isOrder (c .relation) ≡ true → anyOrder (conditionsOf count records) ≡ true
@@ -118,25 +138,18 @@ module _ (p : ℕ) (records : List ℕ) (count : ℕ) (table₀ table : List ℕ
     pub adds : (table′ : List ℕ) (pen′ : Pen) (g d : ℕ) → Wrote table pen (own .gates) table′ pen′ → Moved pen (length (own .gates)) pen′
         → _≡_ {A = segment.Node} (record { gate = g; depth = d }) (own .output) → k < length gates → k < length depths
         → Adds p records count table₀ table′ pen′ (slot + c .digits) (k + 1) (set gates k g) (set depths k d)
-    unfolding outputsFrom
-    adds table′ pen′ g d w m o lg ld =
-        let next : pen .next + length (own .gates) ≡ pen′ .next = sym (m .0) in
-        record {
-          most = omega arith;
-          rest = after;
-          reads = others-read records count slot k (a .rest) l (a .reads) c e;
-          each = (subst (Every InSlots) (sym is-next) (a .each)) .1;
-          size = ap (λ (n : ℕ). n + length (segments p n after)) (sym next) ∙ room;
-          counts = (m .1, m .2);
-          outputs =
-              ap (λ (ns : List segment.Node). ns ++ outputsFrom p (pen′ .next) after) (added (k + 1) k g d gates depths (add-one k) (omega arith) (omega arith))
-              ∙ append-assoc (nodes (take k gates) (take k depths)) (record { gate = g; depth = d } ∷ []) (outputsFrom p (pen′ .next) after)
-              ∙ ap (λ (o : segment.Node). nodes (take k gates) (take k depths) ++ (o ∷ outputsFrom p (pen′ .next) after)) o
-              ∙ ap (λ (n : ℕ). nodes (take k gates) (take k depths) ++ (own .output ∷ outputsFrom p n after)) (sym next)
-              ∙ ap (λ (cs : List Condition). nodes (take k gates) (take k depths) ++ outputsFrom p (pen .next) cs) is-next
-              ∙ a .outputs;
-          orders = λ later. a .orders (after-order later);
-          writes = λ table″ pen″ rest.
-              a .writes table″ pen″
-              (same-gates (sym whole) (then w (same-gates (ap (λ (n : ℕ). segments p n after) (sym next)) rest)));
-        }
+    adds table′ pen′ g d w m o lg ld = record {
+      most = omega arith;
+      draft = longer;
+      wrote = then (a .wrote) (same-gates (ap (λ (s : segment.Segment). s .gates) own-is) w);
+      counts = (m .1, m .2);
+      outputs =
+          added (k + 1) k g d gates depths (add-one k) (omega arith) (omega arith)
+          ∙ ap₂ (λ (before : List segment.Node) (node : segment.Node). before ++ (node ∷ [])) (a .outputs)
+          (o ∙ ap (λ (s : segment.Segment). s .output) own-is);
+      rest = after;
+      reads = others-read records count slot k (a .rest) l (a .reads) c e;
+      each = own-each .1;
+      all = all-after;
+      orders = λ later. a .orders (after-order later);
+    }

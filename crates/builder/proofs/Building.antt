@@ -3,50 +3,58 @@
 -- Assumes nothing.
 use mathlib.Core.Path.{_≡_, refl, sym, ap, _∙_}
 use mathlib.Core.Bool.{true}
-use mathlib.Core.List.{List, [], _∷_, _++_}
-use Prim.Native.Nat.{ℕ, suc, _+_, _-_, _*_, _%_, _≤_, _<_}
+use mathlib.Core.List.{List, [], _∷_}
+use Prim.Native.Nat.{ℕ, _+_, _-_, _*_, _/_, _≤_, _<_}
 use native.Mathlib.Omega.{arith}
 use native.Mathlib.Nat.{zero-add}
 use borrow.Author.Tests.{lt-ltb}
 use lib.Dec.{ltb}
-use lib.ListN.{length, drop, length-append, length-drop, replicate, length-replicate}
+use lib.ListN.{length, drop, length-append, length-drop}
 use lib.Seq.{sets}
 use Rattle.answer.specs.Outcome.{refused, accepted}
 use Rattle.answer.specs.Report.{Report}
 use Rattle.answer.proofs.Outcome.{answered, was-refused, accepted-same}
 use Rattle.field.specs.Logarithm.{clog}
+use Rattle.digits.specs.Number.{mostDigits}
 use Rattle.field.proofs.Logarithm.{clog-is-ceiling}
 use Rattle.circuit.specs.Depth.{depth}
 use Rattle.circuit.specs.Every.{Every}
-use Rattle.circuit.specs.Gate.{Gate, Left}
 use Rattle.circuit.specs.ProductTree.{productTree}
 use Rattle.circuit.specs.Report.{report}
 use Rattle.circuit.specs.Segment as segment
 use Rattle.circuit.specs.Table.{Head, headBytes, mostGates}
 use Rattle.circuit.proofs.Bounds.{counts-below}
 use Rattle.circuit.proofs.Count.{all-counted}
-use Rattle.circuit.proofs.Every.{every-map}
+use Rattle.circuit.proofs.Every.{every-map, every-append}
 use Rattle.circuit.proofs.ProductTree.{multiply-length}
-use Rattle.comparison.specs.Condition.{Condition}
+use Rattle.comparison.specs.Condition.{Condition, HasSlots}
+use Rattle.comparison.specs.OrderDigit.{powerCount}
+use Rattle.comparison.specs.Tests.{baseTests}
 use Rattle.comparison.specs.Writing.{conditionSegment}
 use Rattle.comparison.proofs.Condition.{condition-depth}
 use Rattle.query.specs.Card.{Card, mostConditions, slotsOf}
 use Rattle.query.specs.Outcomes.{tableRoom, building, forecasting}
 use Rattle.query.specs.Reading.{readCard, readConditions}
-use Rattle.query.specs.Whole.{begin, filled, tableOf}
+use Rattle.query.specs.Whole.{Draft, begin, add, addAll, filled, tableOf}
 use Rattle.query.proofs.Building.{built}
-use Rattle.query.proofs.CardFacts.{InCard, Accepted, accepted-card}
+use Rattle.query.proofs.CardFacts.{Accepted, accepted-card}
 use Rattle.query.proofs.Promises.{exact-size, card-output}
 use Rattle.query.proofs.Reading.{reads}
+use Rattle.query.proofs.Whole.{all-outputs}
 use Rattle.card.specs.Parts.{Summary, summary, readSummary}
 use Rattle.writer.specs.declared.Pen.{Pen}
+use Rattle.constants.specs.Constants.{mostConstants}
+use Rattle.powers.specs.Powers.{mostPowers}
 use Rattle.tree.specs.Factors.{Shallow}
+use Rattle.writer.specs.Modulus.{Modulus}
 use Rattle.writer.specs.Pen.{fresh, Wrote}
 use Rattle.writer.proofs.Writing.{same-gates, then, whole}
 use Rattle.builder.specs.Buildable.{Buildable, reportIs}
-use Rattle.builder.specs.Conditions.{segments, outputsFrom, conditionsOf, Readable}
-use Rattle.condition.specs.Condition.{InSlots}
-use Rattle.builder.proofs.Conditions.{all-gates, all-nodes}
+use Rattle.builder.specs.Conditions.{conditionsOf, drafted, Ready, Readable, Writable}
+
+-- above the depth of any condition: 8 for p - 1 below 256, and 8 for its digits
+abbrev mostLevels : ℕ
+mostLevels = 16
 
 module _ (bytes : List ℕ) (card : Card) (e : readCard bytes ≡ accepted card) where
   abbrev p : ℕ
@@ -74,74 +82,60 @@ module _ (bytes : List ℕ) (card : Card) (e : readCard bytes ≡ accepted card)
         few = known .count .1;
         reads = rw conditions-are read;
         each = rw conditions-are
-            (every-map (λ (c : Condition) (h : InCard (slotsOf cs) c). (h .0, h .1, omega (arith, h, known .slots), omega (arith, h, known .slots))) cs (known .each));
+            (every-map (λ (c : Condition) (h : HasSlots (slotsOf cs) (slotsOf cs) c). (h .0, omega (arith, h, known .slots), omega (arith, h, known .slots)))
+            cs (known .each));
       }
 
   -- ---- the gates
 
-  gates-are : filled card .gates ≡ segments p 0 cs
-  gates-are = all-gates p begin cs
-
-  outputs-are : filled card .outputs ≡ outputsFrom p 0 cs
-  outputs-are = all-nodes p begin cs
-
-  abbrev outs : List segment.Node
-  outs = outputsFrom p 0 cs
-
-  all : (next : ℕ) → next ≡ length (segments p 0 cs) → segments p 0 cs ++ productTree next outs .gates ≡ tableOf card .gates
-  all next h = rw (gates-are, outputs-are, h)
-
-  outputs-length : (k : ℕ) (ds : List Condition) → length (outputsFrom p k ds) ≡ length ds
-  unfolding outputsFrom
-  outputs-length k [] = refl
-  outputs-length k (d ∷ ds) = ap suc (outputs-length _ ds)
+  abbrev draft : Draft
+  draft = drafted p cs
 
   -- room for the conditions' gates and the product tree's
-  pub sizes : (next : ℕ) → next ≡ length (segments p 0 cs)
-      → (length (segments p 0 cs) + (length cs - 1) ≡ length (tableOf card .gates)) × (length (tableOf card .gates) ≤ mostGates)
-  sizes next h =
-      let tree : length (productTree next outs .gates) ≡ length cs - 1 = multiply-length _ next outs ∙ ap (λ (n : ℕ). n - 1) (outputs-length 0 cs) in (
-        omega (arith, ap length (all next h), length-append (segments p 0 cs) (productTree next outs .gates), tree),
-        exact-size bytes card e .1,
-      )
+  pub sizes : (length (draft .gates) + (length cs - 1) ≡ length (tableOf card .gates)) × (length (tableOf card .gates) ≤ mostGates)
+  sizes =
+      let next = length (draft .gates) in
+      let count : length (draft .outputs) ≡ length cs = all-outputs (baseTests p) p begin cs ∙ zero-add _ in
+      let tree : length (productTree next (draft .outputs) .gates) ≡ length cs - 1 = multiply-length _ next (draft .outputs) ∙ ap (λ (n : ℕ). n - 1) count in
+      (omega (arith, length-append (draft .gates) (productTree next (draft .outputs) .gates), tree), exact-size bytes card e .1)
 
   -- ---- the outputs
 
-  -- no condition is deeper than 16 levels
-  few-levels : (k : ℕ) (ds : List Condition) → Every InSlots ds → Every (λ (f : segment.Node). f .depth ≤ 16) (outputsFrom p k ds)
-  unfolding outputsFrom
-  few-levels k [] h = tt
-  few-levels k (d ∷ ds) h =
-      let earlier = replicate k (Left 0) in
-      let own = condition-depth p earlier d (known .prime .low) (known .prime .odd) (h .0 .0) .1 in
-      let top : clog (p - 1) ≤ 8 = clog-is-ceiling (p - 1) 8 .0 (omega (arith, known .prime .high)) in
-      let wide : clog (d .digits) ≤ 8 = clog-is-ceiling (d .digits) 8 .0 (omega (arith, h .0 .1)) in (
-        omega (arith, ap (λ (n : ℕ). conditionSegment p d n .output .depth) (length-replicate k (Left 0)), own, top, wide),
-        few-levels _ ds (h .1),
-      )
+  abbrev Flat : segment.Node → Type 0
+  Flat f = f .depth ≤ mostLevels
 
-  pub shallow : Shallow (length cs) outs
+  -- no condition is deeper than that
+  few-levels : (earlier : Draft) (ds : List Condition) → Every Flat (earlier .outputs) → Every (λ (c : Condition). HasSlots mostDigits mostDigits c) ds
+      → Every Flat (addAll (baseTests p) p earlier ds .outputs)
+  unfolding addAll
+  few-levels earlier [] flat h = flat
+  few-levels earlier (d ∷ ds) flat h =
+      let k = length (earlier .gates) in
+      let own = condition-depth p k d (omega (arith, known .prime .low)) (h .0 .0) in
+      let top : clog (p - 1) ≤ 8 = clog-is-ceiling (p - 1) 8 .0 (omega (arith, known .prime .high)) in
+      let wide : clog (d .digits) ≤ 8 = clog-is-ceiling (d .digits) 8 .0 (omega (arith, h .0)) in
+      few-levels (add (baseTests p) p earlier d) ds
+      (every-append Flat (earlier .outputs) (conditionSegment p d k .output ∷ []) flat (omega (arith, own, top, wide), tt)) (h .1)
+
+  pub shallow : Shallow (length cs) (draft .outputs)
   shallow =
-      every-map (λ (f : segment.Node) h. omega (arith, h, known .count .1)) outs
-      (few-levels 0 cs (rw conditions-are at (readable .each)))
+      every-map (λ (f : segment.Node) h. omega (arith, h, known .count .1)) (draft .outputs)
+      (few-levels begin cs tt (rw conditions-are at (readable .each)))
 
   -- ---- what Build answers and leaves
 
   module _ (lent table₂ table₃ : List ℕ) (pen pen₃ : Pen) (deep : ℕ) (room : tableRoom (tableOf card) ≤ length lent)
-      (conditions : Wrote (sets lent 0 (headBytes (tableOf card .head) (length (tableOf card .gates)))) fresh (segments p 0 cs) table₂ pen)
-      (tree : Wrote table₂ pen (productTree (pen .next) outs .gates) table₃ pen₃)
-      (output : deep ≡ productTree (pen .next) outs .output .depth) where
-    next-is : pen .next ≡ length (segments p 0 cs)
+      (conditions : Wrote (sets lent 0 (headBytes (tableOf card .head) (length (tableOf card .gates)))) fresh (draft .gates) table₂ pen)
+      (tree : Wrote table₂ pen (productTree (pen .next) (draft .outputs) .gates) table₃ pen₃)
+      (output : deep ≡ productTree (pen .next) (draft .outputs) .output .depth) where
+    next-is : pen .next ≡ length (draft .gates)
     next-is = conditions .number ∙ omega arith
 
     wrote : Wrote (sets lent 0 (headBytes (tableOf card .head) (length (tableOf card .gates)))) fresh (tableOf card .gates) table₃ pen₃
-    wrote = same-gates (all (pen .next) next-is) (then conditions tree)
+    wrote = then conditions (same-gates (ap (λ (k : ℕ). productTree k (draft .outputs) .gates) next-is) tree)
 
     deep-is : deep ≡ depth (tableOf card .gates)
-    deep-is = output ∙ tells ∙ card-output bytes card e .1
-      where
-        tells : productTree (pen .next) outs .output .depth ≡ productTree (length (filled card .gates)) (filled card .outputs) .output .depth
-        tells = rw (gates-are, outputs-are, next-is)
+    deep-is = output ∙ ap (λ (k : ℕ). productTree k (draft .outputs) .output .depth) next-is ∙ card-output bytes card e .1
 
     reported : reportIs pen₃ deep (card .weight) ≡ report (tableOf card)
     reported =
@@ -156,67 +150,86 @@ module _ (bytes : List ℕ) (card : Card) (e : readCard bytes ≡ accepted card)
 
 -- ---- the same in the terms of the code, which holds what the card says and the gate count
 
-module _ (bytes lent : List ℕ) (said : Summary) (count : ℕ) (b : Buildable bytes lent said count) where
+module _ {bytes lent : List ℕ} {said : Summary} {count : ℕ} (b : Buildable bytes lent said count) where
   abbrev pub headOf : Head
   headOf = record { prime = said .prime; weight = said .weight; slots = said .slots }
-
-  abbrev pub conditionsSaid : List Condition
-  conditionsSaid = conditionsOf (said .count) (drop 6 bytes)
-
-  abbrev pub gatesSaid : List Gate
-  gatesSaid = segments (said .prime) 0 conditionsSaid
-
-  abbrev pub outputsSaid : List segment.Node
-  outputsSaid = outputsFrom (said .prime) 0 conditionsSaid
 
   pub card-long : 6 ≤ length bytes
   card-long = omega (arith, reads bytes (b .card) (b .reads) .size)
 
-  pub prime-facts : (3 ≤ said .prime) × (said .prime % 2 ≡ 1) × (said .prime ≤ 251)
+  -- the prime of a card, and the lists that are long enough for any
+  pub prime-facts : Modulus (said .prime) × (said .prime / 2 + 1 ≤ mostConstants) × (powerCount (said .prime) < mostPowers)
   prime-facts =
       let known = accepted-card bytes (b .card) (b .reads) .prime in
-      rw (b .says) (known .low, known .odd, known .high)
+      rw (b .says) ((known .low, known .odd, omega (arith, known .high)), omega (arith, known .high), omega (arith, known .high))
 
-  pub count-facts : (1 ≤ said .count) × (said .count ≤ mostConditions)
-  count-facts = rw (b .says) (accepted-card bytes (b .card) (b .reads) .count)
+  -- of n records
+  module _ {n : ℕ} {records : List ℕ} (all : n ≡ said .count) (lent-are : records ≡ drop 6 bytes) where
+    abbrev draftSaid : Draft
+    draftSaid = drafted (said .prime) (conditionsOf n records)
 
-  pub readable-said : Readable (said .count) (drop 6 bytes)
-  readable-said = rw (b .says) (readable bytes (b .card) (b .reads))
+    is-filled : draftSaid ≡ filled (b .card)
+    is-filled = rw (all, lent-are, b .says, conditions-are bytes (b .card) (b .reads))
 
-  pub shallow-said : Shallow (said .count) outputsSaid
-  shallow-said = rw (b .says, conditions-are bytes (b .card) (b .reads)) (shallow bytes (b .card) (b .reads))
+    pub count-facts : (1 ≤ n) × (n ≤ mostConditions)
+    count-facts = rw (all, b .says) (accepted-card bytes (b .card) (b .reads) .count)
 
-  -- room for the conditions, and for the product tree after them
-  pub room-said : (8 * (length gatesSaid + (said .count - 1) + 1) ≤ length lent) × (length gatesSaid + (said .count - 1) ≤ mostGates)
-  room-said =
-      rw (b .says, conditions-are bytes (b .card) (b .reads))
-      (let s = sizes bytes (b .card) (b .reads) _ refl in (omega (arith, s, b .room), omega (arith, s)))
+    pub readable-said : Readable n records
+    readable-said = rw (all, lent-are, b .says) (readable bytes (b .card) (b .reads))
 
-  module _ (table₂ table₃ : List ℕ) (pen pen₃ : Pen) (deep : ℕ)
-      (conditions : Wrote (sets lent 0 (headBytes headOf count)) fresh gatesSaid table₂ pen)
-      (tree : Wrote table₂ pen (productTree (pen .next) outputsSaid .gates) table₃ pen₃)
-      (output : deep ≡ productTree (pen .next) outputsSaid .output .depth) where
-    first : Wrote (sets lent 0 (headBytes (tableOf (b .card) .head) (length (tableOf (b .card) .gates)))) fresh
-        (segments (b .card .prime) 0 (b .card .conditions)) table₂ pen
-    first = rw (b .says, b .gates, conditions-are bytes (b .card) (b .reads)) at conditions
+    -- room for the conditions, and for the product tree after them
+    pub room-said : (8 * (length (draftSaid .gates) + (n - 1) + 1) ≤ length lent) × (length (draftSaid .gates) + (n - 1) ≤ mostGates)
+    room-said =
+        let s = sizes bytes (b .card) (b .reads) in
+        let same = ap (λ (d : Draft). length (d .gates)) is-filled in
+        let conditions = all ∙ ap (λ (t : Summary). t .count) (b .says) in
+        (omega (arith, s, same, conditions, b .room), omega (arith, s, same, conditions))
 
-    second : Wrote table₂ pen (productTree (pen .next) (outputsFrom (b .card .prime) 0 (b .card .conditions)) .gates) table₃ pen₃
-    second = rw (b .says, conditions-are bytes (b .card) (b .reads)) at tree
+    pub writable-said : {table constants powers gates depths : List ℕ} → length table ≡ length lent
+        → Ready (said .prime) (conditionsOf n records) constants powers → n ≤ length gates → n ≤ length depths
+        → Writable n records (said .prime) table constants powers gates depths
+    writable-said same ready enough too = record {
+      readable = readable-said;
+      modulus = prime-facts .0;
+      room = omega (arith, room-said, same);
+      ready = ready;
+      outputs = (enough, too);
+    }
 
-    third : deep ≡ productTree (pen .next) (outputsFrom (b .card .prime) 0 (b .card .conditions)) .output .depth
-    third = rw (b .says, conditions-are bytes (b .card) (b .reads)) at output
+    -- ---- the outputs, and the product tree over them
 
-    pub answers-said : accepted (reportIs pen₃ deep (said .weight)) ≡ building bytes lent .answer
-    answers-said = rw (b .says) (answers bytes (b .card) (b .reads) lent table₂ table₃ pen pen₃ deep (b .room) first second third)
+    module _ {factors : List segment.Node} (are : factors ≡ draftSaid .outputs) where
+      factors-are : factors ≡ filled (b .card) .outputs
+      factors-are = are ∙ ap (λ (d : Draft). d .outputs) is-filled
 
-    pub leaves-said : table₃ ≡ building bytes lent .lent
-    leaves-said = leaves bytes (b .card) (b .reads) lent table₂ table₃ pen pen₃ deep (b .room) first second third
+      pub shallow-said : Shallow n factors
+      shallow-said = rw (factors-are, all, b .says) (shallow bytes (b .card) (b .reads))
 
-    -- a gate is a product, a square or neither
-    pub counts-said : pen₃ .products + pen₃ .squares ≤ mostGates
-    counts-said =
-        let w = wrote bytes (b .card) (b .reads) lent table₂ table₃ pen pen₃ deep (b .room) first second third in
-        omega (arith, w .products, w .squares, counts-below (tableOf (b .card) .gates), exact-size bytes (b .card) (b .reads) .1)
+      module _ {table₁ table₂ table₃ : List ℕ} {pen pen₃ : Pen} {deep : ℕ} (head : table₁ ≡ sets lent 0 (headBytes headOf count))
+          (conditions : Wrote table₁ fresh (draftSaid .gates) table₂ pen)
+          (tree : Wrote table₂ pen (productTree (pen .next) factors .gates) table₃ pen₃)
+          (output : deep ≡ productTree (pen .next) factors .output .depth) where
+        first : Wrote (sets lent 0 (headBytes (tableOf (b .card) .head) (length (tableOf (b .card) .gates)))) fresh
+            (filled (b .card) .gates) table₂ pen
+        first = rw (head, b .says, b .gates) at (same-gates (ap (λ (d : Draft). d .gates) is-filled) conditions)
+
+        second : Wrote table₂ pen (productTree (pen .next) (filled (b .card) .outputs) .gates) table₃ pen₃
+        second = same-gates (ap (λ (fs : List segment.Node). productTree (pen .next) fs .gates) factors-are) tree
+
+        third : deep ≡ productTree (pen .next) (filled (b .card) .outputs) .output .depth
+        third = output ∙ ap (λ (fs : List segment.Node). productTree (pen .next) fs .output .depth) factors-are
+
+        pub answers-said : accepted (reportIs pen₃ deep (said .weight)) ≡ building bytes lent .answer
+        answers-said = rw (b .says) (answers bytes (b .card) (b .reads) lent table₂ table₃ pen pen₃ deep (b .room) first second third)
+
+        pub leaves-said : table₃ ≡ building bytes lent .lent
+        leaves-said = leaves bytes (b .card) (b .reads) lent table₂ table₃ pen pen₃ deep (b .room) first second third
+
+        -- a gate is a product, a square or neither
+        pub counts-said : pen₃ .products + pen₃ .squares ≤ mostGates
+        counts-said =
+            let w = wrote bytes (b .card) (b .reads) lent table₂ table₃ pen pen₃ deep (b .room) first second third in
+            omega (arith, w .products, w .squares, counts-below (tableOf (b .card) .gates), exact-size bytes (b .card) (b .reads) .1)
 
 -- ---- room
 

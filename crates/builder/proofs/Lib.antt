@@ -1,5 +1,4 @@
 -- Laws of building.
-pub mod Conditions
 pub mod Rest
 pub mod Orders
 pub mod Adding

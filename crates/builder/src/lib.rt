@@ -11,23 +11,20 @@ use writer::Pen;
 use writer::Slots;
 use writer::Written;
 ghost use mathlib.Core.Path.{_≡_};
-ghost use mathlib.Core.Bool.{true};
-ghost use Prim.Native.Nat.{_+_, _*_, _/_, _%_, _≤_, _<_};
+ghost use Prim.Native.Nat.{_+_, _*_, _/_, _≤_, _<_};
 ghost use lib.ListN.{length, take};
 ghost use Rattle.answer.specs.Outcome.{accepted};
 ghost use Rattle.answer.specs.Report.{reportAnswer};
 ghost use Rattle.answer.specs.declared.Reported.the-variants.{Success};
 ghost use Rattle.circuit.specs.Table.{mostGates};
 ghost use Rattle.comparison.specs.OrderDigit.{powerCount};
-ghost use Rattle.order.specs.Constants.{Constants};
-ghost use Rattle.powers.specs.Powers.{Deep};
 ghost use Rattle.tree.specs.Factors.{nodes};
+ghost use Rattle.writer.specs.Modulus.{Modulus};
 ghost use Rattle.writer.specs.Pen.{fresh, Wrote, Moved};
-ghost use Rattle.query.specs.Card.{mostConditions};
 ghost use Rattle.query.specs.Outcomes.{building};
 ghost use Rattle.card.specs.Parts.{headIs, readSummary};
-ghost use Rattle.builder.specs.Buildable.{Buildable, reportIs};
-ghost use Rattle.builder.specs.Conditions.{segments, outputsFrom, conditionsOf, anyOrder, Readable};
+ghost use Rattle.builder.specs.Buildable.{Buildable, Workspace, reportIs};
+ghost use Rattle.builder.specs.Conditions.{conditionsOf, drafted, anyOrder, Ready, Readable, Writable};
 
 // The conditions in order; their outputs go into gates and depths.
 fn put_conditions(
@@ -40,11 +37,10 @@ fn put_conditions(
     gates: &mut [u16],
     depths: &mut [u16],
 ) -> Pen
-    requires { ⌜ Readable count (now records) × (3 ≤ p) × (p % 2 ≡ 1) × (p < 256) × (count ≤ length (now gates)) × (count ≤ length (now depths)) ⌝ }
-    requires { ⌜ (8 * (length (segments p 0 (conditionsOf count (now records))) + 1) ≤ length (now table)) × (length (segments p 0 (conditionsOf count (now records))) ≤ mostGates) × ((anyOrder (conditionsOf count (now records)) ≡ true) → Constants p (now constants) × Deep p (now powers) (powerCount p + 1)) × (powerCount p < length (now powers)) ⌝ }
-    ensures wrote { λ r. ⌜ Wrote (now (table .entry)) fresh (segments p 0 (conditionsOf count (now (records .entry)))) (now (table .exit)) r ⌝ }
-    ensures moves { λ r. ⌜ Moved fresh (length (segments p 0 (conditionsOf count (now (records .entry))))) r ⌝ }
-    ensures outputs { λ r. ⌜ nodes (take count (now (gates .exit))) (take count (now (depths .exit))) ≡ outputsFrom p 0 (conditionsOf count (now (records .entry))) ⌝ }
+    requires { ⌜ Writable count (now records) p (now table) (now constants) (now powers) (now gates) (now depths) ⌝ }
+    ensures wrote { λ r. ⌜ Wrote (now (table .entry)) fresh (drafted p (conditionsOf count (now (records .entry))) .gates) (now (table .exit)) r ⌝ }
+    ensures moves { λ r. ⌜ Moved fresh (length (drafted p (conditionsOf count (now (records .entry))) .gates)) r ⌝ }
+    ensures outputs { λ r. ⌜ nodes (take count (now (gates .exit))) (take count (now (depths .exit))) ≡ drafted p (conditionsOf count (now (records .entry))) .outputs ⌝ }
 {
     let mut pen = writer::new_pen();
     let mut slot: u16 = 0;
@@ -96,8 +92,8 @@ fn has_order(records: &[u8], count: usize) -> bool
 
 // The order constants of a prime and the depths of the powers, which only records with an order relation ask for.
 fn prepare_order(records: &[u8], count: usize, prime: u8, constants: &mut [u8], powers: &mut [u16])
-    requires { ⌜ Readable count (now records) × (3 ≤ prime) × (prime % 2 ≡ 1) × (prime / 2 + 1 ≤ length (now constants)) × (powerCount prime < length (now powers)) ⌝ }
-    ensures { λ _. ⌜ ((anyOrder (conditionsOf count (now (records .entry))) ≡ true) → Constants prime (now (constants .exit)) × Deep prime (now (powers .exit)) (powerCount prime + 1)) ⌝ }
+    requires { ⌜ Readable count (now records) × Modulus prime × (prime / 2 + 1 ≤ length (now constants)) × (powerCount prime < length (now powers)) ⌝ }
+    ensures { λ _. ⌜ Ready prime (conditionsOf count (now (records .entry))) (now (constants .exit)) (now (powers .exit)) ⌝ }
 {
     if has_order(records, count) {
         constants::put_order_constants(prime, constants);
@@ -132,7 +128,7 @@ fn write_table(
     depths: &mut [u16],
 ) -> Report
     requires { ⌜ Buildable (now card) (now table) (headIs head) count ⌝ }
-    requires { ⌜ (128 ≤ length (now constants)) × (192 ≤ length (now powers)) × (mostConditions ≤ length (now gates)) × (length (now depths) ≡ length (now gates)) ⌝ }
+    requires { ⌜ Workspace (now constants) (now powers) (now gates) (now depths) ⌝ }
     ensures answers { λ r. ⌜ reportAnswer (Success r) ≡ building (now (card .entry)) (now (table .entry)) .answer ⌝ }
     ensures leaves { λ r. ⌜ now (table .exit) ≡ building (now (card .entry)) (now (table .entry)) .lent ⌝ }
 {

@@ -13,9 +13,9 @@ use Rattle.answer.proofs.Outcome.{answered, accepted-same, was-refused}
 use Rattle.digits.specs.Number.{mostDigits}
 use Rattle.comparison.specs.Condition.{Condition}
 use Rattle.query.specs.Card.{Card, slotsOf}
-use Rattle.query.specs.Reading.{readConditions, readSlots}
+use Rattle.query.specs.Reading.{readConditions, withinSlots, readSlots}
 use Rattle.query.proofs.Reading.{conditions-placed}
-use Rattle.card.specs.Parts.{Summary, summary, readSlotCount, withinSlots}
+use Rattle.card.specs.Parts.{Summary, summary, readSlotCount}
 
 -- what a card says whose prime, weight and condition count are known, from the bytes of its records
 abbrev pub telling : ℕ → ℕ → ℕ → List ℕ → Answer Summary
@@ -37,12 +37,12 @@ module _ (p s count : ℕ) (records : List ℕ) where
 
   -- the conditions that were read
   told : (cs : List Condition) (slots : ℕ) → readConditions 0 count records ≡ accepted cs → slotsOf cs ≡ slots → length cs ≡ count
-      → withinSlots (record { prime = p; weight = s; count = count; slots = slots }) ≡ telling p s count records
+      → withinSlots slots (record { prime = p; weight = s; count = count; slots = slots }) ≡ telling p s count records
   told cs slots e sum size =
       rw (e, ← sum, ← size) (limited (ltb mostDigits (slotsOf cs)) (record { prime = p; weight = s; conditions = cs }))
 
   pub told-slots : (slots : ℕ) → accepted slots ≡ readSlotCount count records
-      → withinSlots (record { prime = p; weight = s; count = count; slots = slots }) ≡ telling p s count records
+      → withinSlots slots (record { prime = p; weight = s; count = count; slots = slots }) ≡ telling p s count records
   told-slots slots e =
       let read = answered (readConditions 0 count records) (λ cs. accepted (slotsOf cs)) (sym e) in
       told (read .0) slots (read .1) (accepted-same (read .2)) (conditions-placed 0 count records (read .0) (read .1) .0)

@@ -1,15 +1,12 @@
 -- A condition and a card's head, as the code holds them.
 use Prim.Native.Nat.{ℕ}
 use mathlib.Core.List.{List}
-use lib.Dec.{ltb}
 use lib.ListN.{length}
 use Rattle.answer.specs.Numbers.{refusalNumber}
-use Rattle.answer.specs.Outcome.{Answer, refused, accepted, refuse, onAnswer}
-use Rattle.digits.specs.Number.{mostDigits, wrongCount}
+use Rattle.answer.specs.Outcome.{Answer, refused, accepted, onAnswer}
 use Rattle.comparison.specs.Condition.{Condition}
-use Rattle.comparison.specs.Relation.{Relation}
 use Rattle.query.specs.Card.{Card, slotsOf}
-use Rattle.query.specs.Reading.{readConditions, readCard}
+use Rattle.query.specs.Reading.{conditionAt, readConditions, readCard}
 use Rattle.relations.specs.Relations.{relationIs}
 use Rattle.card.specs.declared.ConditionRead.{ConditionRead}
 use Rattle.card.specs.declared.ConditionRead.the-variants as conditionRead
@@ -19,18 +16,10 @@ use Rattle.card.specs.declared.CardHead.{CardHead}
 use Rattle.card.specs.declared.CardRead.{CardRead}
 use Rattle.card.specs.declared.CardRead.the-variants as cardRead
 
--- a condition on the n slots from one on, on both sides
-abbrev pub conditionAt : ℕ → Relation → ℕ → Condition
-conditionAt slot r n = record { relation = r; digits = n; left = slot; right = slot }
-
 -- the refusal's number, or the condition from a slot on, for each case of the enum
 abbrev pub conditionAnswer : ℕ → ConditionRead → Answer Condition
 conditionAnswer slot (conditionRead.Read r n) = accepted (conditionAt slot (relationIs r) n)
 conditionAnswer slot (conditionRead.Refused why) = refused (refusalNumber why)
-
--- "9 n", or the condition
-abbrev pub countedAs : ℕ → Relation → ℕ → Answer Condition
-countedAs slot r n = refuse (wrongCount n) (refused 9) (accepted (conditionAt slot r n))
 
 -- the digits of the next records together, or the first rule broken
 abbrev pub readSlotCount : ℕ → List ℕ → Answer ℕ
@@ -59,10 +48,6 @@ summary card = record {
 -- what a card's bytes say, or the first rule broken
 abbrev pub readSummary : List ℕ → Answer Summary
 readSummary bytes = onAnswer (readCard bytes) refused (λ card. accepted (summary card))
-
--- "10 N over 16", or what the card says
-abbrev pub withinSlots : Summary → Answer Summary
-withinSlots s = refuse (ltb mostDigits (s .slots)) (refused 10) (accepted s)
 
 -- what the code's struct stands for
 abbrev pub headIs : CardHead → Summary

@@ -1,13 +1,15 @@
 // Reading query cards.
 use answer::Refusal;
+use records::LEAST_WEIGHT;
+use records::MOST_WEIGHT;
 use relations::Relation;
 ghost use mathlib.Core.Path.{_≡_};
 ghost use Prim.Native.Nat.{ℕ, _*_, _≤_};
 ghost use lib.ListN.{length};
 ghost use Rattle.query.specs.Card.{mostConditions};
-ghost use Rattle.query.specs.Reading.{readCondition};
+ghost use Rattle.query.specs.Reading.{countedAs, readCondition, withinSlots};
 ghost use Rattle.relations.specs.Relations.{relationIs};
-ghost use Rattle.card.specs.Parts.{conditionAnswer, countedAs, slotsAnswer, readSlotCount, headIs, cardAnswer, withinSlots, readSummary};
+ghost use Rattle.card.specs.Parts.{conditionAnswer, slotsAnswer, readSlotCount, headIs, cardAnswer, readSummary};
 
 // The marks of a head and of a condition.
 const CARD_MARK: [u8; 2] = [0xC5, 0x48];
@@ -103,7 +105,7 @@ fn read_conditions(records: &[u8], count: usize) -> SlotsRead
 
 // A card whose conditions are read, or 10.
 fn limit_slots(head: CardHead) -> CardRead
-    ensures { λ r. ⌜ cardAnswer r ≡ withinSlots (headIs head) ⌝ }
+    ensures { λ r. ⌜ cardAnswer r ≡ withinSlots (head .slots) (headIs head) ⌝ }
 {
     if digits::MOST_DIGITS < arithmetic::wide(head.slots) {
         return CardRead::Refused(Refusal::TooManyDigits);
@@ -128,7 +130,7 @@ pub fn read_card(card: &[u8]) -> CardRead
     if !arithmetic::is_listed(prime) {
         return CardRead::Refused(Refusal::PrimeNotListed);
     }
-    if records::outside(arithmetic::wide(weight), 50, 100) {
+    if records::outside(arithmetic::wide(weight), LEAST_WEIGHT, MOST_WEIGHT) {
         return CardRead::Refused(Refusal::WeightOutOfRange);
     }
     if records::outside(arithmetic::wide(spare), 0, 0) {

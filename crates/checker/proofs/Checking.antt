@@ -2,7 +2,7 @@
 -- Assumes nothing.
 use mathlib.Core.Path.{_≡_, sym, ap, subst, _∙_}
 use mathlib.Core.List.{List, [], _∷_, _++_}
-use Prim.Native.Nat.{ℕ, zero, suc, _+_, _-_, _*_, _≤_, _<_, zero-le}
+use Prim.Native.Nat.{ℕ, zero, suc, _+_, _-_, _≤_, _<_, zero-le}
 use native.Mathlib.Omega.{arith}
 use native.Mathlib.Decide.{decLt}
 use native.Mathlib.Nat.{add-zero, sub-zero}
@@ -11,7 +11,7 @@ use lib.Dec.{eqb}
 use lib.ListN.{length, take, drop, getD, set, length-append, length-set, List·getD-append}
 use lib.Seq.{take-suc-set, length-take-le, getD-take, getD-append-add}
 use Rattle.answer.specs.Outcome.{Answer, refused, accepted}
-use Rattle.answer.specs.Report.{Report}
+use Rattle.answer.specs.Report.{Report, costOf}
 use Rattle.answer.proofs.Outcome.{answered, was-refused, accepted-same}
 use Rattle.circuit.specs.Count.{isMul, count}
 use Rattle.circuit.specs.Gate.{Gate, fields}
@@ -64,7 +64,7 @@ starts head table count depths e = record {
 
 -- all records are read
 pub finishes : (head : Head) (table : List ℕ) (count k : ℕ) (depths : List ℕ) (m q cost : ℕ) (whole : Answer Report)
-    → 1 ≤ count → count ≤ k → count ≤ mostGates → cost ≡ 100 * m + head .weight * q → Checks head table count k depths m q whole
+    → 1 ≤ count → count ≤ k → count ≤ mostGates → cost ≡ costOf (head .weight) m q → Checks head table count k depths m q whole
     → accepted (record { gates = count; products = m; squares = q; cost = cost; depth = getD depths (count - 1) 0 }) ≡ whole
 unfolding interpret count
 finishes head table n k depths m q cost whole some most small e c =

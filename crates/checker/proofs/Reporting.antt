@@ -2,13 +2,13 @@
 -- Assumes nothing.
 use mathlib.Core.Path.{_≡_, refl, ap}
 use mathlib.Core.List.{List, [], _∷_, _++_}
-use Prim.Native.Nat.{ℕ, zero, suc, _+_, _-_, _*_}
+use Prim.Native.Nat.{ℕ, zero, suc, _+_, _-_}
 use native.Mathlib.Omega.{arith}
 use native.Mathlib.Nat.{zero-add}
 use native.Mathlib.Numerals.{add-one}
 use lib.ListN.{length, drop, length-append}
 use Rattle.answer.specs.Outcome.{Answer, refused, accepted, onAnswer}
-use Rattle.answer.specs.Report.{Report}
+use Rattle.answer.specs.Report.{Report, costOf}
 use Rattle.field.specs.Bit.{bit}
 use Rattle.circuit.specs.Count.{isProduct, isSquare, count}
 use Rattle.circuit.specs.Depth.{depths}
@@ -26,7 +26,7 @@ tally s earlier m q gs = record {
   gates = length earlier + length gs;
   products = m + count isProduct gs;
   squares = q + count isSquare gs;
-  cost = 100 * (m + count isProduct gs) + s * (q + count isSquare gs);
+  cost = costOf s (m + count isProduct gs) (q + count isSquare gs);
   depth = entryOf depths (interpret depths earlier gs) (length earlier + length gs - 1);
 }
 

@@ -8,6 +8,10 @@ use Rattle.circuit.specs.Gate.{Gate}
 use Rattle.circuit.specs.Report.{report}
 use Rattle.circuit.specs.Table.{Head, Table}
 
+-- the most gates of a small table, whose depths go into an array that is quickly cleared
+abbrev pub fewGates : ℕ
+fewGates = 256
+
 -- the report on the gates
 abbrev pub reporting : Head → Answer (List Gate) → Answer Report
 reporting head read = onAnswer read refused (λ gates. accepted (report (record { head = head; gates = gates })))

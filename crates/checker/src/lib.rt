@@ -5,7 +5,9 @@ use answer::Report;
 use answer::Reported;
 use gates::Added;
 use records::HEAD_MARK;
+use records::LEAST_WEIGHT;
 use records::MOST_GATES;
+use records::MOST_WEIGHT;
 use records::RECORD;
 use records::TableHead;
 ghost use mathlib.Core.Path.{_≡_};
@@ -17,7 +19,7 @@ ghost use Rattle.circuit.specs.Reading.{readGates, readHead};
 ghost use Rattle.circuit.specs.Table.{mostGates};
 ghost use Rattle.records.specs.Head.{headIs};
 ghost use Rattle.checker.specs.HeadAnswer.{headAnswer};
-ghost use Rattle.checker.specs.Reporting.{reporting};
+ghost use Rattle.checker.specs.Reporting.{fewGates, reporting};
 
 // The gates of a small table.
 const FEW_GATES: usize = 256;
@@ -44,7 +46,7 @@ fn read_head(table: &[u8]) -> HeadRead
     if !arithmetic::is_listed(head.prime) {
         return HeadRead::Refused(Refusal::PrimeNotListed);
     }
-    if records::outside(arithmetic::wide(head.weight), 50, 100) {
+    if records::outside(arithmetic::wide(head.weight), LEAST_WEIGHT, MOST_WEIGHT) {
         return HeadRead::Refused(Refusal::WeightOutOfRange);
     }
     if records::outside(arithmetic::wide(head.slots), 1, digits::MOST_DIGITS) {
@@ -96,9 +98,9 @@ fn check_gates(table: &[u8], head: TableHead, count: usize, depths: &mut [u16]) 
     })
 }
 
-// The same with an array of depths that is quickly cleared, for up to 256 gates.
+// The same with an array of depths that is quickly cleared, for the gates of a small table.
 fn check_few(table: &[u8], head: TableHead, count: usize) -> Reported
-    requires { ⌜ (1 ≤ count) × (count ≤ 256) × (8 * (count + 1) ≤ length (now table)) ⌝ }
+    requires { ⌜ (1 ≤ count) × (count ≤ fewGates) × (8 * (count + 1) ≤ length (now table)) ⌝ }
     ensures { λ r. ⌜ reportAnswer r ≡ reporting (headIs head) (readGates (headIs head) 0 count (drop 8 (now (table .entry)))) ⌝ }
 {
     let mut depths = [0u16; FEW_GATES];

@@ -19,6 +19,7 @@ use Rattle.circuit.specs.Depth.{depths}
 use Rattle.circuit.specs.Gate.{Gate, Left, Right, Add, Sub, Scale, Flip, Mul, fields}
 use Rattle.circuit.specs.Meaning.{meaning, entryOf, interpret, entryAt, Solves}
 use Rattle.circuit.specs.Promises.{ValuesBelow, DepthsBelow}
+use Rattle.circuit.specs.Table.{mostWeight}
 use Rattle.circuit.specs.Value.{values}
 use Rattle.circuit.proofs.Count.{all-counted}
 use Rattle.circuit.proofs.Fitting.{Named, AllNamed, all-named}
@@ -90,6 +91,6 @@ unfolding count
 counts-below [] = zero-le
 counts-below (g ∷ gs) = omega (arith, one-at-most (isMul g) (eqb (fields g .a) (fields g .b)), counts-below gs)
 
-pub cost-below : (s : ℕ) (gs : List Gate) → s ≤ 100 → cost s gs ≤ 100 * length gs
+pub cost-below : (s : ℕ) (gs : List Gate) → s ≤ mostWeight → cost s gs ≤ 100 * length gs
 cost-below s gs h =
     rw (all-counted gs .0, all-counted gs .1) (omega (arith, counts-below gs, mul-le-mul-right (count isSquare gs) h))

@@ -15,7 +15,7 @@ use Rattle.digits.proofs.Number.{below-append}
 use Rattle.circuit.specs.Constant.{isConstant}
 use Rattle.circuit.specs.Gate.{Gate, Left, Right, Add, Sub, Scale, Flip, Mul, fields, gateBytes}
 use Rattle.circuit.specs.Promises.{TableBytes}
-use Rattle.circuit.specs.Table.{Head, leftSlots, rightSlots, headBytes, gatesBytes, mostGates, fits, allFit}
+use Rattle.circuit.specs.Table.{Head, leftSlots, rightSlots, headBytes, gatesBytes, leastWeight, mostWeight, mostGates, fits, allFit}
 use Rattle.circuit.proofs.Fitting.{two-below, fit-cons}
 use Rattle.circuit.proofs.WellFormed.{well-formed}
 
@@ -71,7 +71,7 @@ table-bytes table t =
     let w = well-formed table t in
     let head = table .head in
     let prime : head .prime ≤ 251 = listed-is-odd-prime (head .prime) .0 (w .prime) .high in
-    let weight = in-range (head .weight) 50 100 (w .weight) in
+    let weight = in-range (head .weight) leastWeight mostWeight (w .weight) in
     let slots = in-range (head .slots) 1 mostDigits (w .slots) in
     let count = in-range (length (table .gates)) 1 mostGates (w .count) in
     below-append 256 (headBytes head (length (table .gates))) (gatesBytes (table .gates))

@@ -13,8 +13,8 @@ use borrow.Author.Tests.{le-leb, lt-leb}
 use lib.ListN.{length}
 use Rattle.circuit.specs.Every.{Every}
 use Rattle.circuit.specs.Factors.{InOrder, Precedes}
-use Rattle.circuit.specs.ProductTree.{Choice, goesFirst, least, choose, times}
-use Rattle.circuit.specs.Segment.{Node}
+use Rattle.circuit.specs.ProductTree.{Choice, goesFirst, least, choose}
+use Rattle.circuit.specs.Segment.{Node, times}
 use Rattle.circuit.proofs.Every.{every-map, every-map₂}
 use Rattle.circuit.proofs.Rearranged.{same-length, same-every, last-first}
 

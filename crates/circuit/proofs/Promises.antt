@@ -17,7 +17,7 @@ use Rattle.circuit.specs.Outcomes.{checking, running}
 use Rattle.circuit.specs.Promises.{TableReadsBack, OnlyTables, ChecksTables, ChecksOnlyTables, TrimsTables, TrimsStart, TrimsNothing, RunsTables, RunAccepts, WorkDecides, Bounded, ReportBounds}
 use Rattle.circuit.specs.Reading.{reading}
 use Rattle.circuit.specs.Report.{report}
-use Rattle.circuit.specs.Table.{Table, tableBytes, mostGates}
+use Rattle.circuit.specs.Table.{Table, tableBytes, leastWeight, mostWeight, mostGates}
 use Rattle.circuit.proofs.Count.{all-counted}
 use Rattle.circuit.proofs.Bounds.{depths-below, counts-below, cost-below}
 use Rattle.circuit.proofs.Reading.{table-length, read-table, reads, bytes-read}
@@ -83,7 +83,7 @@ bounds : (table : Table) → WellFormed table → Bounded (report table)
 bounds table w =
     let gates = table .gates in
     let count = in-range (length gates) 1 mostGates (w .count) in
-    let weight = in-range (table .head .weight) 50 100 (w .weight) in (
+    let weight = in-range (table .head .weight) leastWeight mostWeight (w .weight) in (
       count .1,
       omega (arith, depths-below (table .head) gates (length gates - 1) (w .fitted) (omega arith)),
       omega (arith, cost-below (table .head .weight) gates (weight .1)),

@@ -4,6 +4,7 @@ use mathlib.Core.Bool.{Bool, not, _||_}
 use mathlib.Core.List.{List, _∷_}
 use lib.Dec.{eqb}
 use lib.ListN.{getD}
+use Rattle.field.specs.Byte.{byteValues}
 
 -- byte i; bytes that are not there read as 0
 abbrev pub byte : List ℕ → ℕ → ℕ
@@ -22,7 +23,7 @@ wrongMark mark bytes = not (eqb (byte bytes 0) (mark .opening)) || not (eqb (byt
 
 -- "u16 are little-endian"
 abbrev pub u16 : ℕ → List ℕ → List ℕ
-u16 x bytes = x % 256 ∷ x / 256 ∷ bytes
+u16 x bytes = x % byteValues ∷ x / byteValues ∷ bytes
 
 abbrev pub u16At : List ℕ → ℕ → ℕ
-u16At bytes i = byte bytes i + 256 * byte bytes (i + 1)
+u16At bytes i = byte bytes i + byteValues * byte bytes (i + 1)

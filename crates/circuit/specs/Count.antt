@@ -1,8 +1,9 @@
 -- Products, squares and cost (document 01, "Gate table").
-use Prim.Native.Nat.{ℕ, _+_, _*_}
+use Prim.Native.Nat.{ℕ, _+_}
 use mathlib.Core.Bool.{Bool, not, _&&_}
 use mathlib.Core.List.{List, [], _∷_}
 use lib.Dec.{eqb}
+use Rattle.answer.specs.Report.{costOf}
 use Rattle.field.specs.Bit.{bit}
 use Rattle.circuit.specs.Gate.{Gate, fields}
 
@@ -34,6 +35,6 @@ products gates = count isProduct (counted gates)
 abbrev pub squares : List Gate → ℕ
 squares gates = count isSquare (counted gates)
 
--- "Cost is 100 times the products plus s times the squares"
+-- "Cost is 100 times the products plus s times the squares, over all records."
 abbrev pub cost : ℕ → List Gate → ℕ
-cost s gates = 100 * products gates + s * squares gates
+cost s gates = costOf s (products gates) (squares gates)

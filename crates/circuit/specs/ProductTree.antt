@@ -6,9 +6,8 @@ use mathlib.Core.Bool.{Bool, true, false}
 use mathlib.Core.List.{List, [], _∷_, _++_}
 use lib.Dec.{leb}
 use lib.ListN.{length}
-use Rattle.circuit.specs.Depth.{depths}
 use Rattle.circuit.specs.Gate.{Mul}
-use Rattle.circuit.specs.Segment.{Node, Segment}
+use Rattle.circuit.specs.Segment.{Node, Segment, times}
 
 -- a factor, and the others in their order
 pub record Choice : Type 0 where
@@ -33,10 +32,6 @@ least x (y ∷ ys) = pick (goesFirst x (least y ys .chosen)) x (y ∷ ys) (least
 abbrev pub choose : List Node → Choice
 choose [] = record { chosen = record { gate = 0; depth = 0 }; others = [] }
 choose (x ∷ xs) = least x xs
-
--- the product of two factors, written as gate number k
-abbrev pub times : ℕ → Node → Node → Node
-times k a b = record { gate = k; depth = depths .mul (a .depth) (b .depth) }
 
 -- so many products, from gate number k on; then the factor that is left
 unfoldable pub multiply : ℕ → ℕ → List Node → Segment

@@ -10,6 +10,7 @@ use lib.ListN.{length, take, drop}
 use Rattle.answer.specs.Outcome.{refused, accepted, Keeps}
 use Rattle.answer.specs.Report.{Report}
 use Rattle.digits.specs.Number.{allBelow}
+use Rattle.field.specs.Byte.{byteValues}
 use Rattle.circuit.specs.Depth.{depths}
 use Rattle.circuit.specs.Gate.{Gate}
 use Rattle.circuit.specs.Meaning.{Algebra, entries, entryAt, Solves, output}
@@ -28,7 +29,7 @@ TableReadsBack = (table : Table) (later : List ℕ) → wellFormed table ≡ tru
 -- and nothing else is read: accepted bytes are those of a well-formed table, and what comes after it
 abbrev pub OnlyTables : Type 0
 OnlyTables =
-    (bytes : List ℕ) (table : Table) → allBelow 256 bytes ≡ true → reading bytes ≡ accepted table
+    (bytes : List ℕ) (table : Table) → allBelow byteValues bytes ≡ true → reading bytes ≡ accepted table
     → (wellFormed table ≡ true) × (bytes ≡ tableBytes table ++ drop (8 * (length (table .gates) + 1)) bytes)
 
 -- "Later bytes are not looked at", also where a gate is refused
@@ -42,7 +43,7 @@ TableLength = (table : Table) → length (tableBytes table) ≡ 8 * (length (tab
 
 -- a table's bytes are bytes
 abbrev pub TableBytes : Type 0
-TableBytes = (table : Table) → wellFormed table ≡ true → allBelow 256 (tableBytes table) ≡ true
+TableBytes = (table : Table) → wellFormed table ≡ true → allBelow byteValues (tableBytes table) ≡ true
 
 -- Check accepts every table, with the table's own counts and depth
 abbrev pub ChecksTables : Type 0
@@ -52,7 +53,7 @@ ChecksTables =
 -- Check accepts nothing but tables
 abbrev pub ChecksOnlyTables : Type 0
 ChecksOnlyTables =
-    (bytes : List ℕ) (told : Report) → allBelow 256 bytes ≡ true → checking bytes ≡ accepted told
+    (bytes : List ℕ) (told : Report) → allBelow byteValues bytes ≡ true → checking bytes ≡ accepted told
     → (table : Table) × (later : List ℕ) × (wellFormed table ≡ true) × (bytes ≡ tableBytes table ++ later) × (told ≡ report table)
 
 -- Trim hands back exactly head and gates

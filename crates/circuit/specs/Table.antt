@@ -43,8 +43,14 @@ abbrev pub tableBytes : Table → List ℕ
 tableBytes table = headBytes (table .head) (length (table .gates)) ++ gatesBytes (table .gates)
 
 -- "weight s (hundredths, 50 to 100)"
+abbrev pub leastWeight : ℕ
+leastWeight = 50
+
+abbrev pub mostWeight : ℕ
+mostWeight = 100
+
 abbrev pub wrongWeight : ℕ → Bool
-wrongWeight s = ltb s 50 || ltb 100 s
+wrongWeight s = ltb s leastWeight || ltb mostWeight s
 
 -- "gate count G as u16 (1 to 8191)"
 abbrev pub mostGates : ℕ

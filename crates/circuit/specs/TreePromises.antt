@@ -12,8 +12,8 @@ use Rattle.circuit.specs.Every.{Every}
 use Rattle.circuit.specs.Factors.{InOrder, Precedes, breadth, listProduct}
 use Rattle.circuit.specs.Gate.{Gate, Mul}
 use Rattle.circuit.specs.Meaning.{entryAt}
-use Rattle.circuit.specs.ProductTree.{times, productTree}
-use Rattle.circuit.specs.Segment.{Node}
+use Rattle.circuit.specs.ProductTree.{productTree}
+use Rattle.circuit.specs.Segment.{Node, times}
 use Rattle.circuit.specs.Table.{Head, allFit}
 use Rattle.circuit.specs.Tree.{Tree, leaves, height}
 use Rattle.circuit.specs.Value.{values}

@@ -7,6 +7,7 @@ ghost use mathlib.Core.List.{_++_};
 ghost use Prim.Native.Nat.{_+_, _-_, _*_, _^_, _≤_, _<_};
 ghost use lib.Dec.{ltb};
 ghost use lib.ListN.{length, drop};
+ghost use Rattle.field.specs.Byte.{byteValues};
 ghost use Rattle.digits.specs.Number.{base as baseOf, allBelow, digitsOf};
 ghost use Rattle.coding.specs.Answers.{encodeAnswer, decodeAnswer};
 ghost use Rattle.digits.specs.Encoding.{encoding};
@@ -26,14 +27,14 @@ pub enum Decoded {
 const LARGEST: u64 = 0xffff_ffff_ffff_ffff;
 
 fn wide(x: u8) -> u64
-    ensures { λ r. ⌜ (r ≡ x) × (r < 256) ⌝ }
+    ensures { λ r. ⌜ (r ≡ x) × (r < byteValues) ⌝ }
 {
     x as u64
 }
 
 // B = (p + 1) / 2.
 fn base_of(p: u8) -> u64
-    ensures { λ r. ⌜ (r ≡ baseOf p) × (r ≤ 128) ⌝ }
+    ensures { λ r. ⌜ (r ≡ baseOf p) × (2 * r ≤ byteValues) ⌝ }
 {
     (wide(p) + 1) / 2
 }
@@ -58,7 +59,7 @@ fn is_below_power(x: u64, base: u64, n: usize) -> bool
 
 // Puts the n lowest digits of x at the start of out.
 fn put_digits(x: u64, base: u64, n: usize, out: &mut [u8])
-    requires { ⌜ (0 < base) × (base ≤ 256) × (n ≤ length (now out)) ⌝ }
+    requires { ⌜ (0 < base) × (base ≤ byteValues) × (n ≤ length (now out)) ⌝ }
     ensures { λ _. ⌜ now (out .exit) ≡ digitsOf base n x ++ drop n (now (out .entry)) ⌝ }
 {
     let mut rest = x;

@@ -2,11 +2,12 @@
 -- Assumes nothing.
 use mathlib.Core.Path.{_≡_, refl, sym, ap, ap₂, _∙_}
 use mathlib.Core.Bool.{Bool, true, false}
-use mathlib.Core.List.{List, [], _∷_, _++_}
+use mathlib.Core.List.{List, [], _++_}
 use Prim.Native.Nat.{ℕ, suc, _+_, _-_, _*_, _/_, _%_, _≤_}
 use native.Mathlib.Omega.{arith}
 use native.Mathlib.Nat.{le-of-eq, mul-le-mul-left}
 use lib.ListN.{length, length-append}
+use Rattle.answer.specs.Report.{costOf}
 use Rattle.field.specs.Bit.{bit}
 use Rattle.field.specs.Logarithm.{clog, flog}
 use Rattle.field.specs.Primes.{Prime}
@@ -15,9 +16,9 @@ use Rattle.field.proofs.Logarithm.{flog-less}
 use Rattle.digits.specs.Number.{base, allBelow}
 use Rattle.circuit.specs.Count.{count, isProduct, isSquare}
 use Rattle.circuit.specs.Depth.{depths}
-use Rattle.circuit.specs.Gate.{Gate, Flip}
+use Rattle.circuit.specs.Gate.{Gate}
 use Rattle.circuit.specs.Meaning.{Algebra, entryAt, Solves}
-use Rattle.circuit.specs.Segment.{Segment}
+use Rattle.circuit.specs.Segment.{Segment, followedBy}
 use Rattle.circuit.specs.Table.{Head, leftSlots, rightSlots, allFit}
 use Rattle.circuit.specs.Value.{values}
 use Rattle.circuit.proofs.Count.{count-append}
@@ -25,15 +26,17 @@ use Rattle.circuit.proofs.Fitting.{all-fit, fit-append, all-named}
 use Rattle.circuit.proofs.Meaning.{solves-append, later-solved}
 use Rattle.comparison.specs.Bits.{ones}
 use Rattle.comparison.specs.Condition.{Condition, numberIn}
-use Rattle.comparison.specs.Digits.{digitsFrom}
-use Rattle.comparison.specs.Formulas.{gatesBeforeFlip, conditionSize, productsOf, squaresOf, costSummand}
-use Rattle.comparison.specs.OrderDigit.{half}
-use Rattle.comparison.specs.Promises.{OutputIsLast, ConditionSized, ConditionFits, ConditionCounts, OrderCost, CostWithin, EqualityTree, ConditionHolds, ConditionDepth}
+use Rattle.comparison.specs.Digits.{orderDigitSize}
+use Rattle.comparison.specs.Formulas.{digitSize, gatesBeforeFlip, productsOf, squaresOf, costSummand}
+use Rattle.comparison.specs.Lawful.{Lawful}
+use Rattle.comparison.specs.Promises.{OutputIsLast, ConditionWrites, ConditionFits, ConditionHolds, ConditionTells, ConditionDepth, ConditionSized, ConditionCounts, OrderCost, CostWithin, EqualityTree}
 use Rattle.comparison.specs.Relation.{isOrder, isBackward, isFlipped, minuend, subtrahend, tested, flippedIf}
-use Rattle.comparison.specs.Writing.{joining, ending, conditionSegment}
+use Rattle.comparison.specs.Tests.{Tests, baseTests}
+use Rattle.comparison.specs.Writing.{orderSegment, equalitySegment, segmentOf, ending, conditionBy}
 use Rattle.comparison.proofs.Bits.{ones-below, flog-below}
-use Rattle.comparison.proofs.EqualityCondition.{equality-length, equality-count, equality-last, equality-least, equality-fits, equality-value, equality-node, equality-depth}
-use Rattle.comparison.proofs.OrderCondition.{order-length, order-count, order-last, order-fits, order-value, order-depth}
+use Rattle.comparison.proofs.EqualityCondition.{equality-length, equality-counts, equality-last, equality-least, equality-fits, equality-value, equality-node, equality-tells}
+use Rattle.comparison.proofs.Lawful.{base-lawful}
+use Rattle.comparison.proofs.OrderCondition.{order-size, order-length, order-counts, order-last, order-fits, order-value, order-node, order-tells}
 use Rattle.comparison.proofs.Relations.{relation-tested, sides, in-base}
 
 -- what FLIP makes of an entry where there is one
@@ -41,158 +44,223 @@ abbrev flipIf : {A : Type 0} → Algebra A → Bool → A → A
 flipIf alg true a = alg .flip a
 flipIf alg false a = a
 
--- ---- the FLIP at the end, of any segment whose output is its last gate
+-- ---- the FLIP at the end, over any segment whose output is its last gate
 
 module _ (k : ℕ) (s : Segment) (last : suc (s .output .gate) ≡ k + length (s .gates)) where
-  end-length : (b : Bool) → length (ending b k s .gates) ≡ length (s .gates) + bit b
+  abbrev ended : Bool → Segment
+  ended b = followedBy k (s .gates) (ending b (s .output))
+
+  end-length : (b : Bool) → length (ended b .gates) ≡ length (s .gates) + bit b
   end-length true = length-append (s .gates) _ ∙ omega arith
-  end-length false = omega arith
+  end-length false = length-append (s .gates) _ ∙ omega arith
 
-  end-last : (b : Bool) → suc (ending b k s .output .gate) ≡ k + length (ending b k s .gates)
-  end-last true = omega (arith, length-append (s .gates) (Flip (s .output .gate) ∷ []))
-  end-last false = last
+  end-last : (b : Bool) → suc (ended b .output .gate) ≡ k + length (ended b .gates)
+  end-last true = omega (arith, end-length true)
+  end-last false = omega (arith, end-length false)
 
-  end-fits : (head : Head) (b : Bool) → allFit head k (s .gates) ≡ true → allFit head k (ending b k s .gates) ≡ true
+  end-fits : (head : Head) (b : Bool) → allFit head k (s .gates) ≡ true → allFit head k (ended b .gates) ≡ true
   end-fits head true t = fit-append head k (s .gates) _ t (all-fit head _ _ (omega (arith, last), tt))
-  end-fits head false t = t
+  end-fits head false t = fit-append head k (s .gates) _ t (all-fit head _ [] tt)
 
-  end-count : (b : Bool) → (count isProduct (ending b k s .gates) ≡ count isProduct (s .gates))
-      × (count isSquare (ending b k s .gates) ≡ count isSquare (s .gates))
+  end-count : (b : Bool) → (count isProduct (ended b .gates) ≡ count isProduct (s .gates))
+      × (count isSquare (ended b .gates) ≡ count isSquare (s .gates))
   unfolding count
-  end-count true =
-      let flip = Flip (s .output .gate) ∷ [] in
-      (omega (arith, count-append isProduct (s .gates) flip), omega (arith, count-append isSquare (s .gates) flip))
-  end-count false = (refl, refl)
+  end-count b =
+      let flip = ending b (s .output) (k + length (s .gates)) .gates in
+      let none = go b in (
+        omega (arith, count-append isProduct (s .gates) flip, none .0),
+        omega (arith, count-append isSquare (s .gates) flip, none .1),
+      )
+    where
+      go : (b : Bool) → let flip = ending b (s .output) (k + length (s .gates)) .gates in (count isProduct flip ≡ 0) × (count isSquare flip ≡ 0)
+      go true = (refl, refl)
+      go false = (refl, refl)
 
-  end-node : (b : Bool) → ending b k s .output .depth ≡ s .output .depth
+  end-node : (b : Bool) → ended b .output .depth ≡ s .output .depth
   end-node true = refl
   end-node false = refl
 
   -- over any entries: the segment, and its FLIP
-  end-solved : {A : Type 0} (alg : Algebra A) (E : ℕ → A) (b : Bool) → Solves alg E k (ending b k s .gates)
-      → Solves alg E k (s .gates) × (E (ending b k s .output .gate) ≡ flipIf alg b (E (s .output .gate)))
+  end-solved : {A : Type 0} (alg : Algebra A) (E : ℕ → A) (b : Bool) → Solves alg E k (ended b .gates)
+      → Solves alg E k (s .gates) × (E (ended b .output .gate) ≡ flipIf alg b (E (s .output .gate)))
   end-solved alg E true h = let parts = solves-append alg E (s .gates) _ k h in (parts .0, parts .1 .0)
-  end-solved alg E false h = (h, refl)
+  end-solved alg E false h = (solves-append alg E (s .gates) [] k h .0, refl)
 
--- ---- the condition before its FLIP
+-- ---- the condition before its FLIP, by any lawful tests
 
-module _ (p : ℕ) (three : 3 ≤ p) (odd : p % 2 ≡ 1) (c : Condition) (some : 1 ≤ c .digits) (k : ℕ) where
-  abbrev digits : List Gate
-  digits = digitsFrom p c k (c .digits) 0
-
+module _ (p : ℕ) (t : Tests) (law : Lawful p t) (two : 2 ≤ p) (c : Condition) (some : 1 ≤ c .digits) (k : ℕ) where
   abbrev bodyOf : Bool → Segment
-  bodyOf b = let joined = joining b p c k (k + length digits) in record { gates = digits ++ joined .gates; output = joined .output }
+  bodyOf b = segmentOf b t p c k
 
-  abbrev order : Bool
-  order = isOrder (c .relation)
+  body-last : (b : Bool) → suc (bodyOf b .output .gate) ≡ k + length (bodyOf b .gates)
+  unfolding orderSegment equalitySegment
+  body-last true = order-last p t law c some k
+  body-last false = equality-last p two c some k
 
-  abbrev body : Segment
-  body = bodyOf order
-
-  body-last : suc (body .output .gate) ≡ k + length (body .gates)
-  body-last = go order refl
+  -- each digit has its LEFT, RIGHT and z
+  body-some : (b : Bool) → 1 ≤ length (bodyOf b .gates)
+  unfolding orderSegment equalitySegment
+  body-some true = omega (arith, order-size p t law c some k, mul-le-mul-left (orderDigitSize t) some, flog-less (c .digits) some)
+  body-some false = omega (arith, equality-length p two c some k, mul-le-mul-left (c .digits) (digit-some false))
     where
-      go : (b : Bool) → isOrder (c .relation) ≡ b → suc (bodyOf b .output .gate) ≡ k + length (bodyOf b .gates)
-      go true e = order-last p three odd c e some k
-      go false e = equality-last p three odd c e some k
-
-  body-length : length (body .gates) ≡ gatesBeforeFlip order p (c .digits)
-  body-length = go order refl
-    where
-      go : (b : Bool) → isOrder (c .relation) ≡ b → length (bodyOf b .gates) ≡ gatesBeforeFlip b p (c .digits)
-      go true e = order-length p three odd c e some k
-      go false e = equality-length p three odd c e some k
+      digit-some : (b : Bool) → 1 ≤ digitSize b p
+      digit-some true = omega arith
+      digit-some false = omega arith
 
   body-fits : (head : Head) → head .prime ≡ p → c .left + c .digits ≤ leftSlots head → c .right + c .digits ≤ rightSlots head
-      → allFit head k (body .gates) ≡ true
-  body-fits head prime l r = go order refl
-    where
-      go : (b : Bool) → isOrder (c .relation) ≡ b → allFit head k (bodyOf b .gates) ≡ true
-      go true e = order-fits p three odd c e some k head prime l r
-      go false e = equality-fits p three odd c e some k head prime l r
+      → (b : Bool) → allFit head k (bodyOf b .gates) ≡ true
+  unfolding orderSegment equalitySegment
+  body-fits head prime l r true = order-fits p t law c some k head prime l r
+  body-fits head prime l r false = equality-fits p two c some k head prime l r
 
-  body-counts : (count isProduct (body .gates) ≡ productsOf order p (c .digits)) × (count isSquare (body .gates) ≡ squaresOf order p (c .digits))
-  body-counts = go order refl
-    where
-      n : ℕ
-      n = c .digits
+  body-tells : (E : ℕ → ℕ) (b : Bool) → Solves depths E k (bodyOf b .gates) → E (bodyOf b .output .gate) ≡ bodyOf b .output .depth
+  unfolding orderSegment equalitySegment
+  body-tells E true h = order-tells p t law c some k E h
+  body-tells E false h = equality-tells p two c some k E h
 
-      go : (b : Bool) → isOrder (c .relation) ≡ b
-          → (count isProduct (bodyOf b .gates) ≡ productsOf b p (c .digits)) × (count isSquare (bodyOf b .gates) ≡ squaresOf b p (c .digits))
-      go true e =
-          let counts = order-count p three odd c e some k in
-          let odds : (p - 3) / 2 ≡ half p - 1 = omega arith in
-          let evens : (p - 1) / 4 + 1 ≡ half p / 2 + 1 = omega arith in (
-            omega (arith, flog-less n some, counts .0, ap (λ (t : ℕ). n * t) odds),
-            omega (arith, counts .1, ap (λ (t : ℕ). n * t) evens),
-          )
-      go false e = equality-count p three odd c e some k
-
-  body-node : body .output .depth ≡ clog (p - 1) + clog (c .digits)
-  body-node = go order refl
-    where
-      go : (b : Bool) → isOrder (c .relation) ≡ b → bodyOf b .output .depth ≡ clog (p - 1) + clog (c .digits)
-      go true e = refl
-      go false e = equality-node p three odd c e some k
-
-  body-depth : (E : ℕ → ℕ) → Solves depths E k (body .gates) → E (body .output .gate) ≡ clog (p - 1) + clog (c .digits)
-  body-depth E h = go order refl h
-    where
-      go : (b : Bool) → isOrder (c .relation) ≡ b → Solves depths E k (bodyOf b .gates)
-          → E (bodyOf b .output .gate) ≡ clog (p - 1) + clog (c .digits)
-      go true e h = order-depth p three odd c e some k E h
-      go false e h = equality-depth p three odd c e some k E h
-
-  body-value : Prime p → (left right : List ℕ) (E : ℕ → ℕ) → Solves (values p left right) E k (body .gates)
-      → c .left + c .digits ≤ length left → c .right + c .digits ≤ length right → allBelow (base p) left ≡ true
-      → allBelow (base p) right ≡ true
-      → let b = isBackward (c .relation) in
+  body-value : Prime p → 3 ≤ p → p % 2 ≡ 1 → (left right : List ℕ) → c .left + c .digits ≤ length left → c .right + c .digits ≤ length right
+      → allBelow (base p) left ≡ true → allBelow (base p) right ≡ true → (E : ℕ → ℕ) (b : Bool)
+      → Solves (values p left right) E k (bodyOf b .gates)
+      → let back = isBackward (c .relation) in
       let x = numberIn (base p) (c .left) (c .digits) left in
       let y = numberIn (base p) (c .right) (c .digits) right in
-      E (body .output .gate) ≡ bit (tested order (minuend b x y) (subtrahend b x y))
-  body-value prime left right E h l r hl hr = go order refl h
-    where
-      go : (b : Bool) → isOrder (c .relation) ≡ b → Solves (values p left right) E k (bodyOf b .gates)
-          → let back = isBackward (c .relation) in
-          let x = numberIn (base p) (c .left) (c .digits) left in
-          let y = numberIn (base p) (c .right) (c .digits) right in
-          E (bodyOf b .output .gate) ≡ bit (tested b (minuend back x y) (subtrahend back x y))
-      go true e h =
-          let both = sides (base p) left right c l r in
-          order-value p three odd c e some k prime left right E h (in-base p left right c (omega arith) hl hr)
-          ∙ ap₂ (λ (x y : ℕ). bit (tested true x y)) (both .0) (both .1)
-      go false e h =
-          let both = sides (base p) left right c l r in
-          equality-value p three odd c e some k prime left right E h (in-base p left right c (omega arith) hl hr)
-          ∙ ap₂ (λ (x y : ℕ). bit (tested false x y)) (both .0) (both .1)
+      E (bodyOf b .output .gate) ≡ bit (tested b (minuend back x y) (subtrahend back x y))
+  unfolding orderSegment equalitySegment
+  body-value prime three odd left right l r hl hr E true h =
+      let both = sides (base p) left right c l r in
+      order-value p t law c some k prime three odd left right E h (in-base p left right c (omega arith) hl hr)
+      ∙ ap₂ (λ (x y : ℕ). bit (tested true x y)) (both .0) (both .1)
+  body-value prime three odd left right l r hl hr E false h =
+      let both = sides (base p) left right c l r in
+      equality-value p two c some k prime three odd left right E h (in-base p left right c (omega arith) hl hr)
+      ∙ ap₂ (λ (x y : ℕ). bit (tested false x y)) (both .0) (both .1)
 
--- ---- the promises
+-- ---- the promises: any lawful tests
 
 pub output-is-last : OutputIsLast
-unfolding conditionSegment
-output-is-last p k c three odd some = end-last k (body p three odd c some k) (body-last p three odd c some k) (isFlipped (c .relation))
+unfolding conditionBy
+output-is-last p k t c law two some =
+    let order = isOrder (c .relation) in
+    end-last k (bodyOf p t law two c some k order) (body-last p t law two c some k order) (isFlipped (c .relation))
 
-pub condition-sized : ConditionSized
-unfolding conditionSegment
-condition-sized p k c three odd some =
-    end-length k (body p three odd c some k) (body-last p three odd c some k) (isFlipped (c .relation))
-    ∙ ap (λ (n : ℕ). n + bit (isFlipped (c .relation))) (body-length p three odd c some k)
+pub condition-writes : ConditionWrites
+unfolding conditionBy
+condition-writes p k t c law two some =
+    let order = isOrder (c .relation) in
+    let b = isFlipped (c .relation) in
+    omega (
+      arith,
+      end-length k (bodyOf p t law two c some k order) (body-last p t law two c some k order) b,
+      body-some p t law two c some k order,
+    )
 
 pub condition-fits : ConditionFits
-unfolding conditionSegment
-condition-fits head k c three odd some l r =
+unfolding conditionBy
+condition-fits head k t c law two slots =
     let p = head .prime in
-    end-fits k (body p three odd c some k) (body-last p three odd c some k) head (isFlipped (c .relation))
-    (body-fits p three odd c some k head refl l r)
+    let order = isOrder (c .relation) in
+    end-fits k (bodyOf p t law two c (slots .0) k order) (body-last p t law two c (slots .0) k order) head (isFlipped (c .relation))
+    (body-fits p t law two c (slots .0) k head refl (slots .1) (slots .2) order)
+
+-- over the entries of all gates written so far: the condition before its FLIP, and its FLIP
+written-solved : {A : Type 0} (alg : Algebra A) (p : ℕ) (t : Tests) (gates : List Gate) (c : Condition)
+    (law : Lawful p t) (two : 2 ≤ p) (some : 1 ≤ c .digits)
+    → let k = length gates in
+    let written = conditionBy t p c k in
+    let body = bodyOf p t law two c some k (isOrder (c .relation)) in
+    let E = entryAt alg (gates ++ written .gates) in
+    Solves alg E k (body .gates) × (E (written .output .gate) ≡ flipIf alg (isFlipped (c .relation)) (E (body .output .gate)))
+unfolding conditionBy
+written-solved alg p t gates c law two some =
+    let k = length gates in
+    let order = isOrder (c .relation) in
+    let written = conditionBy t p c k .gates in
+    let head : Head = record { prime = p; weight = 0; slots = c .left + c .right + c .digits } in
+    let named = all-named head k written (condition-fits head k t c law two (some, omega arith, omega arith)) in
+    end-solved k (bodyOf p t law two c some k order) (body-last p t law two c some k order) alg _ (isFlipped (c .relation))
+    (later-solved alg gates written named)
+
+pub condition-holds : ConditionHolds
+condition-holds p t left right gates c law prime three odd slots hl hr =
+    let two : 2 ≤ p = omega arith in
+    let some = slots .0 in
+    let end = written-solved (values p left right) p t gates c law two some in
+    let order = isOrder (c .relation) in
+    end .1
+    ∙ go (isFlipped (c .relation)) _ (body-value p t law two c some (length gates) prime three odd left right (slots .1) (slots .2) hl hr _ order (end .0))
+    ∙ ap bit (relation-tested (c .relation) _ _)
+  where
+    go : (b u : Bool) {v : ℕ} → v ≡ bit u → flipIf (values p left right) b v ≡ bit (flippedIf b u)
+    go true u e = ap (values p left right .flip) e ∙ flip-bit p (omega arith) u
+    go false u e = e
+
+pub condition-tells : ConditionTells
+unfolding conditionBy
+condition-tells p t gates c law two some =
+    let k = length gates in
+    let order = isOrder (c .relation) in
+    let b = isFlipped (c .relation) in
+    let end = written-solved depths p t gates c law two some in
+    end .1 ∙ same b _ ∙ body-tells p t law two c some k _ order (end .0)
+    ∙ sym (end-node k (bodyOf p t law two c some k order) (body-last p t law two c some k order) b)
+  where
+    same : (b : Bool) (v : ℕ) → flipIf depths b v ≡ v
+    same true v = refl
+    same false v = refl
+
+-- ---- the promises: document 01's tests
+
+pub condition-depth : ConditionDepth
+unfolding conditionBy equalitySegment
+condition-depth p k c two some = end (isFlipped (c .relation)) (isOrder (c .relation)) ∙ node (isOrder (c .relation))
+  where
+    end : (b order : Bool)
+        → let s = segmentOf order (baseTests p) p c k in followedBy k (s .gates) (ending b (s .output)) .output .depth ≡ s .output .depth
+    end true order = refl
+    end false order = refl
+
+    node : (order : Bool) → segmentOf order (baseTests p) p c k .output .depth ≡ clog (p - 1) + clog (c .digits)
+    node true = order-node p c k some
+    node false = equality-node p two c some k
+
+module _ (p k : ℕ) (c : Condition) (three : 3 ≤ p) (odd : p % 2 ≡ 1) (some : 1 ≤ c .digits) where
+  abbrev two : 2 ≤ p
+  two = omega arith
+
+  abbrev baseOf : Bool → Segment
+  baseOf = bodyOf p (baseTests p) (base-lawful p three odd) two c some k
+
+  base-last : (order : Bool) → suc (baseOf order .output .gate) ≡ k + length (baseOf order .gates)
+  base-last = body-last p (baseTests p) (base-lawful p three odd) two c some k
+
+  base-length : (order : Bool) → length (baseOf order .gates) ≡ gatesBeforeFlip order p (c .digits)
+  unfolding equalitySegment
+  base-length true = order-length p three odd c some k
+  base-length false = equality-length p two c some k
+
+  base-counts : (order : Bool)
+      → (count isProduct (baseOf order .gates) ≡ productsOf order p (c .digits))
+      × (count isSquare (baseOf order .gates) ≡ squaresOf order p (c .digits))
+  unfolding equalitySegment
+  base-counts true = order-counts p three odd c some k
+  base-counts false = equality-counts p two c some k
+
+pub condition-sized : ConditionSized
+unfolding conditionBy
+condition-sized p k c three odd some =
+    let order = isOrder (c .relation) in
+    end-length k (baseOf p k c three odd some order) (base-last p k c three odd some order) (isFlipped (c .relation))
+    ∙ ap (λ (n : ℕ). n + bit (isFlipped (c .relation))) (base-length p k c three odd some order)
 
 pub condition-counts : ConditionCounts
-unfolding conditionSegment
+unfolding conditionBy
 condition-counts p k c three odd some =
-    let end = end-count k (body p three odd c some k) (body-last p three odd c some k) (isFlipped (c .relation)) in
-    let counts = body-counts p three odd c some k in
+    let order = isOrder (c .relation) in
+    let end = end-count k (baseOf p k c three odd some order) (base-last p k c three odd some order) (isFlipped (c .relation)) in
+    let counts = base-counts p k c three odd some order in
     (end .0 ∙ counts .0, end .1 ∙ counts .1)
 
-summand-is : (p s n : ℕ) → p % 2 ≡ 1 → 100 * productsOf true p n + s * squaresOf true p n ≡ costSummand p s n
+summand-is : (p s n : ℕ) → p % 2 ≡ 1 → costOf s (productsOf true p n) (squaresOf true p n) ≡ costSummand p s n
 summand-is p s n odd =
     let half : 100 * ((p - 3) / 2) ≡ 50 * (p - 3) = omega arith in omega (arith, ap (λ (t : ℕ). n * t) half)
 
@@ -203,7 +271,7 @@ order-cost p s c three odd some order = rw order (summand-is p s (c .digits) odd
 pub cost-within : CostWithin
 cost-within p s c three odd some = go (isOrder (c .relation))
   where
-    go : (b : Bool) → 100 * productsOf b p (c .digits) + s * squaresOf b p (c .digits) ≤ costSummand p s (c .digits)
+    go : (b : Bool) → costOf s (productsOf b p (c .digits)) (squaresOf b p (c .digits)) ≤ costSummand p s (c .digits)
     go true = le-of-eq (summand-is p s (c .digits) odd)
     go false =
         let n = c .digits in
@@ -214,53 +282,4 @@ cost-within p s c three odd some = go (isOrder (c .relation))
         omega (arith, odds, evens, flog-less n some)
 
 pub equality-tree : EqualityTree
-equality-tree p k c three odd some equality = equality-least p three odd c equality some k
-
-pub condition-holds : ConditionHolds
-unfolding conditionSegment
-condition-holds p left right gates c prime three odd some l r hl hr =
-    let k = length gates in
-    let alg = values p left right in
-    let b = isFlipped (c .relation) in
-    let s = body p three odd c some k in
-    let written = conditionSegment p c k .gates in
-    let head : Head = record { prime = p; weight = 0; slots = length left + length right } in
-    let E = entryAt alg (gates ++ written) in
-    let named = all-named head k written (condition-fits head k c three odd some (omega arith) (omega arith)) in
-    let end = end-solved k s (body-last p three odd c some k) alg E b (later-solved alg gates written named) in
-    end .1 ∙ go b _ (body-value p three odd c some k prime left right E (end .0) l r hl hr) ∙ ap bit (relation-tested (c .relation) _ _)
-  where
-    go : (b t : Bool) {v : ℕ} → v ≡ bit t → flipIf (values p left right) b v ≡ bit (flippedIf b t)
-    go true t e = ap (values p left right .flip) e ∙ flip-bit p (omega arith) t
-    go false t e = e
-
-pub condition-depth : ConditionDepth
-unfolding conditionSegment
-condition-depth p gates c three odd some =
-    let k = length gates in
-    let b = isFlipped (c .relation) in
-    let s = body p three odd c some k in
-    let written = conditionSegment p c k .gates in
-    let head : Head = record { prime = p; weight = 0; slots = c .left + c .right + c .digits } in
-    let E = entryAt depths (gates ++ written) in
-    let named = all-named head k written (condition-fits head k c three odd some (omega arith) (omega arith)) in
-    let end = end-solved k s (body-last p three odd c some k) depths E b (later-solved depths gates written named) in
-    let node = end-node k s (body-last p three odd c some k) b ∙ body-node p three odd c some k in
-    (end .1 ∙ same b _ ∙ body-depth p three odd c some k E (end .0) ∙ sym node, node)
-  where
-    same : (b : Bool) (v : ℕ) → flipIf depths b v ≡ v
-    same true v = refl
-    same false v = refl
-
--- a condition writes some gate
-pub condition-some : (p : ℕ) (c : Condition) → 3 ≤ p → 1 ≤ c .digits → 1 ≤ conditionSize p c
-condition-some p c three some = go (isOrder (c .relation))
-  where
-    go : (b : Bool) → 1 ≤ gatesBeforeFlip b p (c .digits) + bit (isFlipped (c .relation))
-    go true =
-        let n = c .digits in
-        let wide : n * 1 ≤ n * (p + 4 + (p - 3) / 2 + (p - 1) / 4) = mul-le-mul-left n (omega arith) in
-        omega (arith, wide, flog-less n some)
-    go false =
-        let n = c .digits in
-        let wide : n * 1 ≤ n * (3 + flog (p - 1) + ones (p - 1)) = mul-le-mul-left n (omega arith) in omega (arith, wide)
+equality-tree p k c two some = equality-least p two c some k

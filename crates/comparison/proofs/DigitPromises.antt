@@ -1,94 +1,84 @@
 -- The promises of one digit: the laws of its tests, over the entries of all gates written so far.
 -- Assumes nothing.
 use mathlib.Core.Path.{_≡_, refl, ap, _∙_}
-use mathlib.Core.Bool.{false}
+use mathlib.Core.Bool.{true}
 use mathlib.Core.List.{List, _++_}
-use Prim.Native.Nat.{ℕ, zero, suc, _+_, _-_, _%_, _≤_, _<_}
+use Prim.Native.Nat.{ℕ, suc, _+_, _-_, _≤_}
 use native.Mathlib.Omega.{arith}
-use lib.Dec.{eqb}
 use lib.ListN.{length, length-append}
-use Rattle.field.specs.Bit.{bit}
 use Rattle.circuit.specs.Depth.{depths}
 use Rattle.circuit.specs.Gate.{Gate}
 use Rattle.circuit.specs.Meaning.{Algebra, entryAt, Solves}
-use Rattle.circuit.specs.Table.{Head}
+use Rattle.circuit.specs.Table.{Head, allFit}
 use Rattle.circuit.specs.Value.{values}
 use Rattle.circuit.proofs.Fitting.{all-named}
 use Rattle.circuit.proofs.Meaning.{later-solved}
 use Rattle.comparison.specs.Condition.{Condition}
-use Rattle.comparison.specs.Difference.{difference, zGate}
-use Rattle.comparison.specs.DigitPromises.{firstDigit, secondDigit, InBase, DigitsFollow, TermPowers, OrderDigitHolds, OrderDigitDepth, EqualityDigitHolds, EqualityDigitDepth}
-use Rattle.comparison.specs.Digits.{digitGates}
-use Rattle.comparison.specs.EqualityDigit.{zeroGates}
-use Rattle.comparison.specs.OrderDigit.{equalGate}
-use Rattle.comparison.specs.Relation.{isOrder}
-use Rattle.comparison.specs.Writing.{digitDepth}
-use Rattle.comparison.proofs.Digits.{digit-next, start-first, digit-fits}
-use Rattle.comparison.proofs.DigitTests.{powers-of, less-is, zero-is, equal-is, less-deep, zero-deep, equal-deep}
-
--- a digit's gates name only earlier ones, so their entries solve them
-digit-solved : {A : Type 0} (alg : Algebra A) (p : ℕ) (gates : List Gate) (c : Condition) (j : ℕ) → 3 ≤ p → p % 2 ≡ 1
-    → let k = length gates in Solves alg (entryAt alg (gates ++ digitGates p c j k)) k (digitGates p c j k)
-digit-solved alg p gates c j three odd =
-    let k = length gates in
-    let head : Head = record { prime = p; weight = 0; slots = suc (c .left + c .right + j) } in
-    later-solved alg gates (digitGates p c j k)
-    (all-named head k (digitGates p c j k) (digit-fits p three odd head c j k refl (omega arith) (omega arith)))
+use Rattle.comparison.specs.DigitPromises.{DigitsFollow, TermPowers, OrderDigitHolds, OrderDigitDepth, EqualityDigitHolds, EqualityDigitDepth}
+use Rattle.comparison.specs.Digits.{orderDigit, equalityDigit}
+use Rattle.comparison.specs.Lawful.{Lawful}
+use Rattle.comparison.specs.Tests.{noTest, testNode, Tests, baseTests, equalityTest}
+use Rattle.comparison.proofs.DigitTests.{order-follows, order-first, equality-follows, equality-first, order-digit-fits, equality-digit-fits, powers-of, less-is, zero-is, equal-is, less-deep, zero-deep, equal-deep}
+use Rattle.comparison.proofs.Lawful.{base-lawful, equality-lawful}
 
 pub digits-follow : DigitsFollow
-digits-follow p k j c three odd = (start-first p three odd c k, digit-next p three odd c k j)
+digits-follow p k j t c =
+    (λ law. (order-first t k, order-follows p t law c k j), λ two. (equality-first p k, equality-follows p two c k j))
+
+module _ (p : ℕ) (gates : List Gate) (c : Condition) (j : ℕ) where
+  abbrev k : ℕ
+  k = length gates
+
+  -- any head with slots enough
+  abbrev head : Head
+  head = record { prime = p; weight = 0; slots = suc (c .left + c .right + j) }
+
+  -- gates that fit name only earlier ones, so their entries solve them
+  solved : {A : Type 0} (alg : Algebra A) (digit : List Gate) → allFit head k digit ≡ true
+      → Solves alg (entryAt alg (gates ++ digit)) k digit
+  solved alg digit fits = later-solved alg gates digit (all-named head k digit fits)
+
+  order-solved : {A : Type 0} (alg : Algebra A) (t : Tests) → Lawful p t
+      → Solves alg (entryAt alg (gates ++ orderDigit t c j k)) k (orderDigit t c j k)
+  order-solved alg t law = solved alg (orderDigit t c j k) (order-digit-fits head p refl c j k (omega arith) (omega arith) t law)
+
+  equality-solved : {A : Type 0} (alg : Algebra A) → 2 ≤ p
+      → Solves alg (entryAt alg (gates ++ equalityDigit p c j k)) k (equalityDigit p c j k)
+  equality-solved alg two = solved alg (equalityDigit p c j k) (equality-digit-fits head p refl c j k (omega arith) (omega arith) two)
+
+  -- the last gate of an equality digit
+  zero-last : 2 ≤ p → length (gates ++ equalityDigit p c j k) - 1 ≡ testNode noTest (equalityTest p) k .gate
+  zero-last two = omega (arith, length-append gates (equalityDigit p c j k), equality-lawful p two .size k)
 
 -- ---- the order digit
 
 pub term-powers : TermPowers
-term-powers p left right gates c j three odd order =
-    let k = length gates in
-    let alg = values p left right in
-    let E = entryAt alg (gates ++ digitGates p c j k) in
-    powers-of p three odd left right E c k j (digit-solved alg p gates c j three odd) order
+term-powers p left right gates c j three odd =
+    powers-of p three odd left right _ c j (length gates)
+    (order-solved p gates c j (values p left right) (baseTests p) (base-lawful p three odd))
 
 pub order-digit-holds : OrderDigitHolds
-order-digit-holds p left right gates c j prime three odd order low =
-    let k = length gates in
-    let E = entryAt (values p left right) (gates ++ digitGates p c j k) in
-    let s = digit-solved (values p left right) p gates c j three odd in
-    (less-is p prime three odd left right E c k j s order low, go E k j s low)
-  where
-    go : (E : ℕ → ℕ) (k j : ℕ) → Solves (values p left right) E k (digitGates p c j k) → InBase p left right c j
-        → 0 < j → E (equalGate p k) ≡ bit (eqb (firstDigit left right c j) (secondDigit left right c j))
-    go E k zero s low some = absurd (omega arith)
-    go E k (suc j) s low some = equal-is p prime three odd left right E c k j s order low
+order-digit-holds p t left right gates c j law prime three odd low =
+    let s = order-solved p gates c j (values p left right) t law in (
+      less-is p left right _ c j (length gates) prime three odd low t law s,
+      λ some. equal-is p left right _ c j (length gates) prime three odd low some t law s,
+    )
 
 pub order-digit-depth : OrderDigitDepth
-order-digit-depth p gates c j three odd order =
-    let k = length gates in
-    let E = entryAt depths (gates ++ digitGates p c j k) in
-    let s = digit-solved depths p gates c j three odd in
-    (less-deep p three odd E c k j s order, go E k j s)
-  where
-    go : (E : ℕ → ℕ) (k j : ℕ) → Solves depths E k (digitGates p c j k) → 0 < j → E (equalGate p k) ≡ digitDepth p
-    go E k zero s some = absurd (omega arith)
-    go E k (suc j) s some = equal-deep p three odd E c k j s order
+order-digit-depth p t gates c j law =
+    let s = order-solved p gates c j depths t law in
+    (less-deep p _ c t law j (length gates) s, λ some. equal-deep p _ c t law j (length gates) some s)
 
 -- ---- the equality digit
 
--- its last gate
-zero-last : (p : ℕ) (gates : List Gate) (c : Condition) (j : ℕ) → isOrder (c .relation) ≡ false
-    → let k = length gates in length (gates ++ digitGates p c j k) - 1 ≡ zGate k + length (zeroGates p k)
-zero-last p gates c j order =
-    let k = length gates in
-    let digit = difference (c .relation) (c .left + j) (c .right + j) k in
-    rw order (omega (arith, length-append gates (digit ++ zeroGates p k)))
-
 pub equality-digit-holds : EqualityDigitHolds
-equality-digit-holds p left right gates c j prime three odd order low =
-    let k = length gates in
-    let E = entryAt (values p left right) (gates ++ digitGates p c j k) in
-    ap E (zero-last p gates c j order)
-    ∙ zero-is p prime three odd left right E c k j (digit-solved (values p left right) p gates c j three odd) order low
+equality-digit-holds p left right gates c j prime three odd low =
+    let alg = values p left right in
+    let two : 2 ≤ p = omega arith in
+    ap (entryAt alg (gates ++ equalityDigit p c j (length gates))) (zero-last p gates c j two)
+    ∙ zero-is p left right _ c j (length gates) prime three odd low (equality-solved p gates c j alg two)
 
 pub equality-digit-depth : EqualityDigitDepth
-equality-digit-depth p gates c j three odd order =
-    let k = length gates in
-    let E = entryAt depths (gates ++ digitGates p c j k) in
-    ap E (zero-last p gates c j order) ∙ zero-deep p three odd E c k j (digit-solved depths p gates c j three odd) order
+equality-digit-depth p gates c j two =
+    ap (entryAt depths (gates ++ equalityDigit p c j (length gates))) (zero-last p gates c j two)
+    ∙ zero-deep p _ c two j (length gates) (equality-solved p gates c j depths two)

@@ -12,7 +12,7 @@ use borrow.Author.Tests.{lt-ltb, eq-eqb}
 use lib.Dec.{eqb}
 use lib.ListN.{length, length-append}
 use Rattle.field.specs.Bit.{bit}
-use Rattle.field.specs.Logarithm.{clog, flog}
+use Rattle.field.specs.Logarithm.{clog}
 use Rattle.field.specs.Primes.{Prime}
 use Rattle.field.specs.Sum.{total}
 use Rattle.field.proofs.Bit.{bit-and, bit-below}
@@ -37,19 +37,14 @@ use Rattle.circuit.proofs.Fitting.{fit-append}
 use Rattle.circuit.proofs.Meaning.{solves-append}
 use Rattle.circuit.proofs.ProductTree.{least-first, tree-last, product-fits, product-count, multiply-value, multiply-below, multiply-entry}
 use Rattle.circuit.proofs.TreeDepth.{tree-depth}
-use Rattle.comparison.specs.Bits.{ones}
 use Rattle.comparison.specs.Condition.{Condition}
-use Rattle.comparison.specs.Difference.{zGate}
 use Rattle.comparison.specs.DigitPromises.{firstDigit, secondDigit, InBase}
-use Rattle.comparison.specs.Digits.{digitGates, digitStart, digitsFrom}
-use Rattle.comparison.specs.EqualityDigit.{zeroGates}
-use Rattle.comparison.specs.Formulas.{gatesBeforeFlip}
+use Rattle.comparison.specs.Digits.{equalityDigit, equalityDigitSize, equalityStart, equalityDigits}
+use Rattle.comparison.specs.Formulas.{gatesBeforeFlip, productsOf, squaresOf, digitProducts, digitSquares}
 use Rattle.comparison.specs.OrderDigit.{ascending}
-use Rattle.comparison.specs.Relation.{isOrder}
-use Rattle.comparison.specs.Writing.{equalityFactors, equalityJoining}
+use Rattle.comparison.specs.Writing.{zeroOf, equalityFactors, equalityJoining}
 use Rattle.comparison.proofs.Digits.{digits-end, each-digit, digits-fit, digits-count}
-use Rattle.comparison.proofs.DigitTests.{zero-is, zero-deep}
-use Rattle.comparison.proofs.EqualityDigit.{zero-length}
+use Rattle.comparison.proofs.DigitTests.{equality-follows, equality-first, equality-digit-fits, zero-is, zero-deep, equality-digit-count}
 
 -- numbers of a lowest digit and others are equal where these are
 equal-cons : (B x y : ℕ) (xs ys : List ℕ) → x < B → y < B
@@ -59,32 +54,28 @@ equal-cons B x y xs ys l m =
     let parts = number-equal B (x ∷ []) xs (y ∷ []) ys refl (rw (lt-ltb x B l)) (rw (lt-ltb y B m)) in
     rw (rw (number-one B x, number-one B y) at parts) (omega (arith, bit-and (eqb (number B xs) (number B ys)) (eqb x y)))
 
-module _ (p : ℕ) (three : 3 ≤ p) (odd : p % 2 ≡ 1) (c : Condition) (equality : isOrder (c .relation) ≡ false)
-    (some : 1 ≤ c .digits) (k : ℕ) where
+module _ (p : ℕ) (two : 2 ≤ p) (c : Condition) (some : 1 ≤ c .digits) (k : ℕ) where
   -- ---- where the digits and their tests stand
 
   abbrev size : ℕ
-  size = 3 + flog (p - 1) + ones (p - 1)
+  size = equalityDigitSize p
 
   abbrev start : ℕ → ℕ
-  start j = digitStart p c k j
-
-  start-is : (j : ℕ) → start j ≡ k + size * j
-  start-is j = rw equality
+  start = equalityStart p k
 
   abbrev digits : List Gate
-  digits = digitsFrom p c k (c .digits) 0
+  digits = equalityDigits p c k (c .digits) 0
 
   abbrev next : ℕ
   next = k + length digits
 
   next-is : next ≡ start (c .digits)
-  next-is = digits-end p three odd c k
+  next-is = digits-end (equalityDigit p c) start (equality-follows p two c k) (c .digits) k (equality-first p k)
 
   -- ---- the factors
 
   abbrev factorsFrom : ℕ → ℕ → List Node
-  factorsFrom n j = equalityFactors p c k n j
+  factorsFrom n j = equalityFactors p k n j
 
   abbrev factors : List Node
   factors = factorsFrom (c .digits) 0
@@ -96,11 +87,9 @@ module _ (p : ℕ) (three : 3 ≤ p) (odd : p % 2 ≡ 1) (c : Condition) (equali
 
   factors-order : (n j i m : ℕ) → i ≤ start j → start (n + j) ≤ m → InOrder i m (factorsFrom n j)
   unfolding equalityFactors InOrder
-  factors-order zero j i m low high = omega (arith, start-is j, start-is (0 + j))
+  factors-order zero j i m low high = omega arith
   factors-order (suc n) j i m low high =
-      let here = start-is j in
-      let later = start-is (suc j) in
-      (omega arith, factors-order n (suc j) _ m (omega arith) (omega (arith, start-is (suc n + j), start-is (n + suc j))))
+      (omega arith, factors-order n (suc j) _ m (omega arith) (omega arith))
 
   order : InOrder 0 next factors
   order =
@@ -109,7 +98,7 @@ module _ (p : ℕ) (three : 3 ≤ p) (odd : p % 2 ≡ 1) (c : Condition) (equali
   one-factor : (n j : ℕ) → n ≡ 1 → suc (firstOf (factorsFrom n j) .gate) ≡ start (suc j)
   unfolding equalityFactors least
   one-factor zero j e = absurd (omega arith)
-  one-factor (suc zero) j e = omega (arith, start-is (suc j))
+  one-factor (suc zero) j e = omega arith
   one-factor (suc (suc n)) j e = absurd (omega arith)
 
   -- ---- the gates
@@ -126,16 +115,17 @@ module _ (p : ℕ) (three : 3 ≤ p) (odd : p % 2 ≡ 1) (c : Condition) (equali
   pub equality-length : length gates ≡ gatesBeforeFlip false p (c .digits)
   equality-length =
       let tree = product-count next factors enough order .0 in
-      omega (arith, length-append digits (joined .gates), next-is, start-is (c .digits), tree, factors-length (c .digits) 0)
+      omega (arith, length-append digits (joined .gates), next-is, tree, factors-length (c .digits) 0)
 
-  pub equality-count : (count isProduct gates ≡ c .digits * (ones (p - 1) - 1) + (c .digits - 1))
-      × (count isSquare gates ≡ c .digits * flog (p - 1))
-  equality-count =
-      let d = rw equality at (digits-count p three odd c k (c .digits) 0) in
+  pub equality-counts : (count isProduct gates ≡ productsOf false p (c .digits)) × (count isSquare gates ≡ squaresOf false p (c .digits))
+  equality-counts =
+      let counts = equality-digit-count p c in
+      let ones = digits-count (equalityDigit p c) start isProduct (digitProducts false p) (λ j i. counts j i two .0) (c .digits) 0 in
+      let twos = digits-count (equalityDigit p c) start isSquare (digitSquares false p) (λ j i. counts j i two .1) (c .digits) 0 in
       let t = product-count next factors enough order in
       let n = factors-length (c .digits) 0 in (
-        omega (arith, count-append isProduct digits (joined .gates), d .0, t .1, n),
-        omega (arith, count-append isSquare digits (joined .gates), d .1, t .2),
+        omega (arith, count-append isProduct digits (joined .gates), ones, t .1, n),
+        omega (arith, count-append isSquare digits (joined .gates), twos, t .2),
       )
 
   pub equality-last : suc (joined .output .gate) ≡ k + length gates
@@ -151,37 +141,34 @@ module _ (p : ℕ) (three : 3 ≤ p) (odd : p % 2 ≡ 1) (c : Condition) (equali
   pub equality-fits : (head : Head) → head .prime ≡ p → c .left + c .digits ≤ leftSlots head → c .right + c .digits ≤ rightSlots head
       → allFit head k gates ≡ true
   equality-fits head prime l r =
-      fit-append head k digits (joined .gates) (digits-fit p three odd head c k prime l r) (product-fits head next factors enough order)
+      fit-append head k digits (joined .gates)
+      (digits-fit (equalityDigit p c) start (equality-follows p two c k) head (c .digits) k (equality-first p k)
+      (λ j m. equality-digit-fits head p prime c j (start j) (omega arith) (omega arith) two))
+      (product-fits head next factors enough order)
 
   -- ---- over any entries that solve them
 
-  -- the output of a digit
-  digit-output : (j : ℕ) → zGate (start j) + length (zeroGates p (start j)) ≡ start (suc j) - 1
-  digit-output j = omega (arith, zero-length p (start j) (omega arith), start-is j, start-is (suc j))
-
   digit : {A : Type 0} (alg : Algebra A) (E : ℕ → A) → Solves alg E k gates
-      → (j : ℕ) → j < c .digits → Solves alg E (start j) (digitGates p c j (start j))
-  digit alg E h = each-digit p three odd alg E c k (joined .gates) h
+      → (j : ℕ) → j < c .digits → Solves alg E (start j) (equalityDigit p c j (start j))
+  digit alg E h = each-digit (equalityDigit p c) start (equality-follows p two c k) alg E (c .digits) k (joined .gates) (equality-first p k) h
 
   -- what is true of each digit's output is true of every factor
-  every-factor : (P : ℕ → Type 0) → ((j : ℕ) → j < c .digits → P (start (suc j) - 1)) → (n j : ℕ) → n + j ≤ c .digits
+  every-factor : (P : ℕ → Type 0) → ((j : ℕ) → j < c .digits → P (zeroOf p k j .gate)) → (n j : ℕ) → n + j ≤ c .digits
       → Every (λ (f : Node). P (f .gate)) (factorsFrom n j)
   unfolding equalityFactors
   every-factor P h zero j l = tt
   every-factor P h (suc n) j l = (h j (omega arith), every-factor P h n (suc j) (omega arith))
 
-  module _ (prime : Prime p) (left right : List ℕ) (E : ℕ → ℕ) (h : Solves (values p left right) E k gates)
-      (low : (j : ℕ) → InBase p left right c j) where
+  module _ (prime : Prime p) (three : 3 ≤ p) (odd : p % 2 ≡ 1) (left right : List ℕ) (E : ℕ → ℕ)
+      (h : Solves (values p left right) E k gates) (low : (j : ℕ) → InBase p left right c j) where
     abbrev x : ℕ → ℕ
     x = firstDigit left right c
 
     abbrev y : ℕ → ℕ
     y = secondDigit left right c
 
-    factor-value : (j : ℕ) → j < c .digits → E (start (suc j) - 1) ≡ bit (eqb (x j) (y j))
-    factor-value j l =
-        ap E (sym (digit-output j))
-        ∙ zero-is p prime three odd left right E c (start j) j (digit (values p left right) E h j l) equality (low j)
+    factor-value : (j : ℕ) → j < c .digits → E (zeroOf p k j .gate) ≡ bit (eqb (x j) (y j))
+    factor-value j l = zero-is p left right E c j (start j) prime three odd (low j) (digit (values p left right) E h j l)
 
     abbrev sameFrom : ℕ → ℕ → Bool
     sameFrom n j = eqb (number (base p) (map x (ascending n j))) (number (base p) (map y (ascending n j)))
@@ -193,7 +180,7 @@ module _ (p : ℕ) (three : 3 ≤ p) (odd : p % 2 ≡ 1) (c : Condition) (equali
         ap₂ _*_ (factor-value j (omega arith)) (product-is n (suc j) (omega arith))
         ∙ equal-cons (base p) (x j) (y j) (map x (ascending n (suc j))) (map y (ascending n (suc j))) (low j .0) (low j .1)
 
-    below : (j : ℕ) → j < c .digits → E (start (suc j) - 1) < p
+    below : (j : ℕ) → j < c .digits → E (zeroOf p k j .gate) < p
     below j l = rw (factor-value j l) (bit-below p (omega arith) (eqb (x j) (y j)))
 
     pub equality-value : E (joined .output .gate) ≡ bit (sameFrom (c .digits) 0)
@@ -217,16 +204,14 @@ module _ (p : ℕ) (three : 3 ≤ p) (odd : p % 2 ≡ 1) (c : Condition) (equali
   pub equality-node : joined .output .depth ≡ clog (p - 1) + clog (c .digits)
   equality-node = tree-depth next factors enough ∙ ap clog (breadth-is (c .digits) 0) ∙ clog-factor (clog (p - 1)) (c .digits) some
 
-  pub equality-depth : (E : ℕ → ℕ) → Solves depths E k gates → E (joined .output .gate) ≡ clog (p - 1) + clog (c .digits)
+  pub equality-tells : (E : ℕ → ℕ) → Solves depths E k gates → E (joined .output .gate) ≡ joined .output .depth
   unfolding equalityFactors
-  equality-depth E h =
+  equality-tells E h =
       let s = solves-append depths E digits (joined .gates) k h .1 in
-      let n = factors-length (c .digits) 0 in
-      multiply-entry E (length factors - 1) next factors (omega (arith, n)) s (known (c .digits) 0 (omega arith))
-      ∙ equality-node
+      multiply-entry E (length factors - 1) next factors (omega (arith, factors-length (c .digits) 0)) s (known (c .digits) 0 (omega arith))
     where
-      deep : (j : ℕ) → j < c .digits → E (start (suc j) - 1) ≡ clog (p - 1)
-      deep j l = ap E (sym (digit-output j)) ∙ zero-deep p three odd E c (start j) j (digit depths E h j l) equality
+      deep : (j : ℕ) → j < c .digits → E (zeroOf p k j .gate) ≡ clog (p - 1)
+      deep j l = zero-deep p E c two j (start j) (digit depths E h j l)
 
       known : (n j : ℕ) → n + j ≤ c .digits → Every (λ (f : Node). E (f .gate) ≡ f .depth) (factorsFrom n j)
       known zero j l = tt

@@ -51,8 +51,11 @@ module _ (Q : ℕ → ℕ → Tree ℕ → Type 0) (one : (first : ℕ) → Q fi
       go true small large low high = single first m some (small tt)
       go false small large low high = two first m _ _ (large tt) (low (large tt)) (high (large tt))
 
+  pub halves-run : (first m : ℕ) → 1 ≤ m → Q first m (halves m first m)
+  halves-run first m some = halves-split m first m some (omega arith)
+
   pub halves-whole : (n : ℕ) → 1 ≤ n → Q 0 n (halves n 0 n)
-  halves-whole n some = halves-split n 0 n some (omega arith)
+  halves-whole = halves-run 0
 
 -- ---- leaves
 

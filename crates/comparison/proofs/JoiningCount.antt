@@ -15,10 +15,11 @@ use Rattle.field.specs.Bit.{bit}
 use Rattle.field.specs.Logarithm.{flog}
 use Rattle.field.proofs.Logarithm.{flog-small, flog-half}
 use Rattle.circuit.specs.Count.{count, isProduct, isSquare}
-use Rattle.circuit.specs.Gate.{Gate, Add, Mul}
+use Rattle.circuit.specs.Gate.{Gate, Mul}
+use Rattle.circuit.specs.Segment.{Node, Segment}
 use Rattle.circuit.specs.Tree.{Tree, leaf, join, leaves}
 use Rattle.circuit.proofs.Count.{count-append}
-use Rattle.comparison.specs.Joining.{Run, LowestRun, halves, joinRun, joinLowest}
+use Rattle.comparison.specs.Joining.{JoinedRun, halves, lessJoin, joinRun, joinLowest}
 use Rattle.comparison.proofs.Halves.{Each, Upper, each-map, halves-whole, halves-each, halves-upper}
 
 -- ---- trees
@@ -58,11 +59,11 @@ halves-pairs R n some rising =
 -- ---- gates
 
 -- the gates of a join after those of its parts
-abbrev runEnd : Run → Run → ℕ → List Gate
-runEnd l h next = Mul (h .equal) (l .less) ∷ Add (h .less) next ∷ Mul (l .equal) (h .equal) ∷ []
+abbrev runEnd : JoinedRun → JoinedRun → ℕ → List Gate
+runEnd l h next = lessJoin next (l .less) (h .less) (h .equal) ++ (Mul (l .equal .gate) (h .equal .gate) ∷ [])
 
-abbrev lowestEnd : LowestRun → Run → ℕ → List Gate
-lowestEnd l h next = Mul (h .equal) (l .less) ∷ Add (h .less) next ∷ []
+abbrev lowestEnd : Segment → JoinedRun → ℕ → List Gate
+lowestEnd l h next = lessJoin next (l .output) (h .less) (h .equal)
 
 length-three : (a b c : List Gate) → length (a ++ (b ++ c)) ≡ length a + (length b + length c)
 length-three a b c = length-append a (b ++ c) ∙ ap (λ (x : ℕ). length a + x) (length-append b c)
@@ -72,7 +73,7 @@ count-three test a b c = count-append test a (b ++ c) ∙ ap (λ (x : ℕ). coun
 
 -- ---- how many gates, and the last
 
-module _ (less equal : ℕ → ℕ) where
+module _ (less equal : ℕ → Node) where
   run-length : (t : Tree ℕ) (k : ℕ) → length (joinRun less equal t k .gates) + 3 ≡ 3 * length (leaves t)
   unfolding joinRun leaves
   run-length (leaf j) k = refl
@@ -110,7 +111,7 @@ module _ (less equal : ℕ → ℕ) where
   -- the last two gates of a join are its L and its E
   run-last : (low high : Tree ℕ) (k : ℕ)
       → let run = joinRun less equal (join low high) k in
-      (suc (suc (run .less)) ≡ k + length (run .gates)) × (suc (run .equal) ≡ k + length (run .gates))
+      (suc (suc (run .less .gate)) ≡ k + length (run .gates)) × (suc (run .equal .gate) ≡ k + length (run .gates))
   unfolding joinRun
   run-last low high k =
       let l = joinRun less equal low k in
@@ -120,7 +121,7 @@ module _ (less equal : ℕ → ℕ) where
       (omega arith, omega arith)
 
   lowest-last : (low high : Tree ℕ) (k : ℕ)
-      → let run = joinLowest less equal (join low high) k in suc (run .less) ≡ k + length (run .gates)
+      → let run = joinLowest less equal (join low high) k in suc (run .output .gate) ≡ k + length (run .gates)
   unfolding joinLowest
   lowest-last low high k =
       let l = joinLowest less equal low k in
@@ -128,12 +129,12 @@ module _ (less equal : ℕ → ℕ) where
       let h = joinRun less equal high next in
       omega (arith, length-three (l .gates) (h .gates) (lowestEnd l h (next + length (h .gates))))
 
-  pub joining-last : (n k : ℕ) → 1 ≤ n → (n ≡ 1 → suc (less 0) ≡ k)
-      → suc (joinLowest less equal (halves n 0 n) k .less) ≡ k + length (joinLowest less equal (halves n 0 n) k .gates)
+  pub joining-last : (n k : ℕ) → 1 ≤ n → (n ≡ 1 → suc (less 0 .gate) ≡ k)
+      → suc (joinLowest less equal (halves n 0 n) k .output .gate) ≡ k + length (joinLowest less equal (halves n 0 n) k .gates)
   unfolding joinLowest
   joining-last n k some =
       halves-whole
-      (λ first m t. (m ≡ 1 → suc (less first) ≡ k) → suc (joinLowest less equal t k .less) ≡ k + length (joinLowest less equal t k .gates))
+      (λ first m t. (m ≡ 1 → suc (less first .gate) ≡ k) → suc (joinLowest less equal t k .output .gate) ≡ k + length (joinLowest less equal t k .gates))
       (λ first single. omega (arith, single refl)) (λ first m low high more l h single. lowest-last low high k)
       n some
 
@@ -143,36 +144,36 @@ module _ (less equal : ℕ → ℕ) where
 mul-apart : (a b : ℕ) → a ≢ b → (bit (isProduct (Mul a b)) ≡ 1) × (bit (isSquare (Mul a b)) ≡ 0)
 mul-apart a b h = rw (ne-eqb a b h) (refl, refl)
 
-module _ (less equal : ℕ → ℕ) where
+module _ (less equal : ℕ → Node) where
   -- a digit whose E is a gate below number k; the lowest has none
   abbrev Known : ℕ → ℕ → Type 0
-  Known k j = (0 < j) × (equal j < k)
+  Known k j = (0 < j) × (equal j .gate < k)
 
   -- a lower and a higher digit
   abbrev Apart : ℕ → ℕ → Type 0
-  Apart i j = (less i < equal j) × (0 < i → equal i < equal j)
+  Apart i j = (less i .gate < equal j .gate) × (0 < i → equal i .gate < equal j .gate)
 
   -- each MUL of a join has two operands
-  run-apart : (low high : Tree ℕ) (k : ℕ) → Each (λ j. less j < k) low → Each (Known k) low → Each (Known k) high
+  run-apart : (low high : Tree ℕ) (k : ℕ) → Each (λ j. less j .gate < k) low → Each (Known k) low → Each (Known k) high
       → Each (λ i. Each (Apart i) high) low
       → let l = joinRun less equal low k in
       let h = joinRun less equal high (k + length (l .gates)) in
-      (h .equal ≢ l .less) × (l .equal ≢ h .equal)
+      (h .equal .gate ≢ l .less .gate) × (l .equal .gate ≢ h .equal .gate)
   unfolding joinRun
   run-apart (leaf i) (leaf j) k hl hi hj apart = (λ e. omega arith, λ e. omega (arith, apart .1 (hi .0)))
   run-apart (leaf i) (join a b) k hl hi hj apart = (λ e. omega arith, λ e. omega arith)
   run-apart (join a b) (leaf j) k hl hi hj apart = (λ e. omega arith, λ e. omega arith)
   run-apart (join a b) (join c d) k hl hi hj apart = let last = run-last less equal a b k in (λ e. omega arith, λ e. omega arith)
 
-  lowest-apart : (low high : Tree ℕ) (k : ℕ) → Each (λ j. less j < k) low → Each (Known k) high → Each (λ i. Each (Apart i) high) low
-      → let l = joinLowest less equal low k in joinRun less equal high (k + length (l .gates)) .equal ≢ l .less
+  lowest-apart : (low high : Tree ℕ) (k : ℕ) → Each (λ j. less j .gate < k) low → Each (Known k) high → Each (λ i. Each (Apart i) high) low
+      → let l = joinLowest less equal low k in joinRun less equal high (k + length (l .gates)) .equal .gate ≢ l .output .gate
   unfolding joinLowest joinRun
   lowest-apart (leaf i) (leaf j) k hl hj apart = λ e. omega arith
   lowest-apart (leaf i) (join a b) k hl hj apart = λ e. omega arith
   lowest-apart (join a b) (leaf j) k hl hj apart = λ e. omega arith
   lowest-apart (join a b) (join c d) k hl hj apart = λ e. omega (arith, lowest-last less equal a b k)
 
-  run-count : (t : Tree ℕ) (k : ℕ) → Each (λ j. less j < k) t → Each (Known k) t → Pairs Apart t
+  run-count : (t : Tree ℕ) (k : ℕ) → Each (λ j. less j .gate < k) t → Each (Known k) t → Pairs Apart t
       → (count isProduct (joinRun less equal t k .gates) + 2 ≡ 2 * length (leaves t))
       × (count isSquare (joinRun less equal t k .gates) ≡ 0)
   unfolding joinRun leaves count
@@ -183,16 +184,16 @@ module _ (less equal : ℕ → ℕ) where
       let h = joinRun less equal high next in
       let end = runEnd l h (next + length (h .gates)) in
       let cl = run-count low k (hl .0) (he .0) (apart .0) in
-      let later : Each (λ j. less j < next) high = each-map _ _ (λ j s. omega arith) high (hl .1) in
+      let later : Each (λ j. less j .gate < next) high = each-map _ _ (λ j s. omega arith) high (hl .1) in
       let ch = run-count high next later (each-map _ _ (λ j s. omega arith) high (he .1)) (apart .1) in
       let two = run-apart low high k (hl .0) (he .0) (he .1) (apart .2) in
-      let a = mul-apart (h .equal) (l .less) (two .0) in
-      let b = mul-apart (l .equal) (h .equal) (two .1) in (
+      let a = mul-apart (h .equal .gate) (l .less .gate) (two .0) in
+      let b = mul-apart (l .equal .gate) (h .equal .gate) (two .1) in (
         omega (arith, length-append (leaves low) (leaves high), count-three isProduct (l .gates) (h .gates) end),
         omega (arith, count-three isSquare (l .gates) (h .gates) end),
       )
 
-  lowest-count : (t : Tree ℕ) (k : ℕ) → Each (λ j. less j < k) t → Upper (Known k) t → Pairs Apart t
+  lowest-count : (t : Tree ℕ) (k : ℕ) → Each (λ j. less j .gate < k) t → Upper (Known k) t → Pairs Apart t
       → (count isProduct (joinLowest less equal t k .gates) + 2 + lowJoins t ≡ 2 * length (leaves t))
       × (count isSquare (joinLowest less equal t k .gates) ≡ 0)
   unfolding joinLowest leaves count
@@ -203,15 +204,15 @@ module _ (less equal : ℕ → ℕ) where
       let h = joinRun less equal high next in
       let end = lowestEnd l h (next + length (h .gates)) in
       let cl = lowest-count low k (hl .0) (he .0) (apart .0) in
-      let later : Each (λ j. less j < next) high = each-map _ _ (λ j s. omega arith) high (hl .1) in
+      let later : Each (λ j. less j .gate < next) high = each-map _ _ (λ j s. omega arith) high (hl .1) in
       let ch = run-count high next later (each-map _ _ (λ j s. omega arith) high (he .1)) (apart .1) in
-      let a = mul-apart (h .equal) (l .less) (lowest-apart low high k (hl .0) (he .1) (apart .2)) in (
+      let a = mul-apart (h .equal .gate) (l .output .gate) (lowest-apart low high k (hl .0) (he .1) (apart .2)) in (
         omega (arith, length-append (leaves low) (leaves high), count-three isProduct (l .gates) (h .gates) end),
         omega (arith, count-three isSquare (l .gates) (h .gates) end),
       )
 
-  pub joining-count : (n k : ℕ) → 1 ≤ n → ((j : ℕ) → j < n → less j < k) → ((j : ℕ) → 0 < j → j < n → equal j < k)
-      → ((i j : ℕ) → i < j → j < n → (less i < equal j) × (0 < i → equal i < equal j))
+  pub joining-count : (n k : ℕ) → 1 ≤ n → ((j : ℕ) → j < n → less j .gate < k) → ((j : ℕ) → 0 < j → j < n → equal j .gate < k)
+      → ((i j : ℕ) → i < j → j < n → (less i .gate < equal j .gate) × (0 < i → equal i .gate < equal j .gate))
       → (count isProduct (joinLowest less equal (halves n 0 n) k .gates) + flog n ≡ 2 * (n - 1))
       × (count isSquare (joinLowest less equal (halves n 0 n) k .gates) ≡ 0)
   joining-count n k some hl he apart =

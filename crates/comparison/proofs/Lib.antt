@@ -9,6 +9,7 @@ pub mod EqualityDigit
 pub mod Halves
 pub mod Joining
 pub mod JoiningCount
+pub mod Lawful
 pub mod Digits
 pub mod DigitTests
 pub mod DigitPromises

@@ -5,7 +5,7 @@ use mathlib.Core.Path.{_≡_, refl, sym, _∙_}
 use mathlib.Core.Logic.{inl, inr}
 use mathlib.Core.Bool.{true}
 use mathlib.Core.List.{List, [], _∷_}
-use Prim.Native.Nat.{ℕ, zero, suc, _+_, _-_, _*_, _/_, _%_, _^_, _≤_, _<_}
+use Prim.Native.Nat.{ℕ, suc, _+_, _-_, _*_, _/_, _%_, _^_, _≤_, _<_}
 use native.Mathlib.Omega.{arith}
 use native.Mathlib.Decide.{decLe}
 use native.Mathlib.Nat.{lt-of-not-le, le-antisymm, mod-eq-of-lt}
@@ -26,11 +26,19 @@ use Rattle.circuit.proofs.Every.{every-append, every-last}
 use Rattle.circuit.proofs.Fitting.{all-fit, fit-append}
 use Rattle.circuit.proofs.Meaning.{solves-append}
 use Rattle.comparison.specs.Difference.{zGate}
-use Rattle.comparison.specs.OrderDigit.{half, powers, powerCount, powerGate, terms, termStart, lessGates, lessGate, equalGates, equalGate}
+use Rattle.comparison.specs.OrderDigit.{half, powers, powerCount, powerGate, terms, termStart, lessCount, lessGates, equalGates}
 use Rattle.comparison.proofs.Mapped.{every-second}
 use Rattle.comparison.proofs.Powers.{Asked, gate-low, gate-high, asked-top, powers-length, power-value, power-depth}
 use Rattle.comparison.proofs.PowersCount.{powers-fit, powers-count}
 use Rattle.comparison.proofs.Terms.{terms-length, terms-count, terms-fit, terms-value, terms-below, terms-covers, terms-within}
+
+-- ---- the gates of L and of E
+
+abbrev pub lessGate : ℕ → ℕ → ℕ
+lessGate p k = zGate k + lessCount p
+
+abbrev pub equalGate : ℕ → ℕ → ℕ
+equalGate p k = suc (lessGate p k)
 
 -- ---- the exponents of the terms
 
@@ -90,10 +98,9 @@ module _ (p : ℕ) (three : 3 ≤ p) (odd : p % 2 ≡ 1) where
       (rw after (terms-fit head p z (omega arith) prime (termStart p k) (orderExponents p)
       (every-exponent _ p three odd (λ i one asked. power-before p z i odd three one asked))))
 
-  pub equal-fits : (head : Head) (j k : ℕ) → allFit head (equalGate p k) (equalGates p j k) ≡ true
-  equal-fits head zero k = all-fit head (equalGate p k) [] tt
-  equal-fits head (suc j) k =
-      all-fit head (equalGate p k) (equalGates p (suc j) k)
+  pub equal-fits : (head : Head) (k : ℕ) → allFit head (equalGate p k) (equalGates p k) ≡ true
+  equal-fits head k =
+      all-fit head (equalGate p k) (equalGates p k)
       (omega (arith, power-before p (zGate k) (p - 1) odd three (omega arith) (inr refl)), tt)
 
   -- ---- over any entries: the powers and the terms
@@ -133,9 +140,8 @@ module _ (p : ℕ) (three : 3 ≤ p) (odd : p % 2 ≡ 1) where
         sym (mod-eq-of-lt (terms-below left right E p z (E z) (omega arith) t last is some (sum-last k) ts))
         ∙ terms-value left right E p z (E z) (omega arith) t last is some (sum-last k) powers-are ts
 
-    pub equal-value : (j : ℕ) → Solves (values p left right) E (equalGate p k) (equalGates p (suc j) k)
-        → E (equalGate p k) ≡ zeroTest p (E (zGate k))
-    equal-value j e = e .0 ∙ sub-cong p 1 _ _ (omega arith) (power-is (p - 1) (omega arith) (inr refl))
+    pub equal-value : Solves (values p left right) E (equalGate p k) (equalGates p k) → E (equalGate p k) ≡ zeroTest p (E (zGate k))
+    equal-value e = e .0 ∙ sub-cong p 1 _ _ (omega arith) (power-is (p - 1) (omega arith) (inr refl))
 
   -- ---- depths
 
@@ -155,5 +161,5 @@ module _ (p : ℕ) (three : 3 ≤ p) (odd : p % 2 ≡ 1) where
           last-exponent _ p (terms-covers E p (zGate k) (termStart p k) (lessGate p k) (orderExponents p) some (sum-last k) ts),
         ))
 
-    pub equal-depth : (j : ℕ) → Solves depths E (equalGate p k) (equalGates p (suc j) k) → E (equalGate p k) ≡ clog (p - 1)
-    equal-depth j e = e .0 ∙ deep (p - 1) (omega arith) (inr refl)
+    pub equal-depth : Solves depths E (equalGate p k) (equalGates p k) → E (equalGate p k) ≡ clog (p - 1)
+    equal-depth e = e .0 ∙ deep (p - 1) (omega arith) (inr refl)

@@ -1,5 +1,5 @@
 -- Conditions (document 01, "Card" and "Whole card"): what one says, and where it holds.
-use Prim.Native.Nat.{ℕ}
+use Prim.Native.Nat.{ℕ, _+_, _≤_}
 use mathlib.Core.Bool.{Bool}
 use mathlib.Core.List.{List}
 use lib.ListN.{take, drop}
@@ -12,6 +12,10 @@ pub record Condition : Type 0 where
   pub digits : ℕ
   pub left : ℕ
   pub right : ℕ
+
+-- it has a digit at least, and its slots are among the first l on the left and the first r on the right
+abbrev pub HasSlots : ℕ → ℕ → Condition → Type 0
+HasSlots l r c = (1 ≤ c .digits) × (c .left + c .digits ≤ l) × (c .right + c .digits ≤ r)
 
 -- the number in n slots from the first on
 abbrev pub numberIn : ℕ → ℕ → ℕ → List ℕ → ℕ

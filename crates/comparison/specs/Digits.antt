@@ -1,35 +1,57 @@
 -- "Digits go low to high." (document 01, "Writing one condition"): the digits of a condition, each from its first gate on.
 use Prim.Native.Nat.{ℕ, zero, suc, _+_, _-_, _*_}
-use mathlib.Core.Bool.{Bool, true, false}
 use mathlib.Core.List.{List, [], _++_}
-use Rattle.field.specs.Logarithm.{flog}
 use Rattle.circuit.specs.Gate.{Gate}
-use Rattle.comparison.specs.Bits.{ones}
 use Rattle.comparison.specs.Condition.{Condition}
 use Rattle.comparison.specs.Difference.{difference}
-use Rattle.comparison.specs.EqualityDigit.{zeroGates}
-use Rattle.comparison.specs.OrderDigit.{powerCount, lessGates, equalGates}
-use Rattle.comparison.specs.Relation.{isOrder}
+use Rattle.comparison.specs.Tests.{Tests, equalityTest}
 
--- the tests of digit number j, over the difference whose first gate is number k
-abbrev pub tests : Bool → ℕ → ℕ → ℕ → List Gate
-tests true p j k = lessGates p k ++ equalGates p j k
-tests false p j k = zeroGates p k
+-- n digits from number j on; digit number j is written from gate number start j on
+unfoldable pub digitsFrom : (ℕ → ℕ → List Gate) → (ℕ → ℕ) → ℕ → ℕ → List Gate
+digitsFrom digit start zero j = []
+digitsFrom digit start (suc n) j = digit j (start j) ++ digitsFrom digit start n (suc j)
+
+-- the difference of digit number j, from gate number k on
+abbrev pub digitDifference : Condition → ℕ → ℕ → List Gate
+digitDifference c j k = difference (c .relation) (c .left + j) (c .right + j) k
+
+-- ---- order digits
+
+-- "Every digit but the lowest", which is number 0
+abbrev pub unlessLowest : ℕ → List Gate → List Gate
+unlessLowest zero gates = []
+unlessLowest (suc j) gates = gates
+
+-- the tests of digit number j: L, and E unless it is the lowest
+abbrev pub orderTests : Tests → ℕ → ℕ → List Gate
+orderTests t j k = t .less .gates k ++ unlessLowest j (t .equal .gates k)
 
 -- digit number j, from gate number k on
-abbrev pub digitGates : ℕ → Condition → ℕ → ℕ → List Gate
-digitGates p c j k = difference (c .relation) (c .left + j) (c .right + j) k ++ tests (isOrder (c .relation)) p j k
+abbrev pub orderDigit : Tests → Condition → ℕ → ℕ → List Gate
+orderDigit t c j k = digitDifference c j k ++ orderTests t j k
 
--- how many gates the digits below number j have: the lowest order digit lacks E
-abbrev pub digitsBefore : Bool → ℕ → ℕ → ℕ
-digitsBefore true p j = (3 + powerCount p + p + 1) * j - 1
-digitsBefore false p j = (3 + flog (p - 1) + ones (p - 1)) * j
+-- how many gates one with E has
+abbrev pub orderDigitSize : Tests → ℕ
+orderDigitSize t = 3 + t .less .count + t .equal .count
 
--- the first gate of digit number j of a condition that is written from gate number k on
-abbrev pub digitStart : ℕ → Condition → ℕ → ℕ → ℕ
-digitStart p c k j = k + digitsBefore (isOrder (c .relation)) p j
+-- the first gate of digit number j, where the lowest, which lacks E, is written from gate number k on
+abbrev pub orderStart : Tests → ℕ → ℕ → ℕ
+orderStart t k j = k + (orderDigitSize t * j - t .equal .count)
 
--- n digits from number j on
-unfoldable pub digitsFrom : ℕ → Condition → ℕ → ℕ → ℕ → List Gate
-digitsFrom p c k zero j = []
-digitsFrom p c k (suc n) j = digitGates p c j (digitStart p c k j) ++ digitsFrom p c k n (suc j)
+abbrev pub orderDigits : Tests → Condition → ℕ → ℕ → ℕ → List Gate
+orderDigits t c k n j = digitsFrom (orderDigit t c) (orderStart t k) n j
+
+-- ---- equality digits
+
+-- digit number j, from gate number k on
+abbrev pub equalityDigit : ℕ → Condition → ℕ → ℕ → List Gate
+equalityDigit p c j k = digitDifference c j k ++ equalityTest p .gates k
+
+abbrev pub equalityDigitSize : ℕ → ℕ
+equalityDigitSize p = 3 + equalityTest p .count
+
+abbrev pub equalityStart : ℕ → ℕ → ℕ → ℕ
+equalityStart p k j = k + equalityDigitSize p * j
+
+abbrev pub equalityDigits : ℕ → Condition → ℕ → ℕ → ℕ → List Gate
+equalityDigits p c k n j = digitsFrom (equalityDigit p c) (equalityStart p k) n j

@@ -5,6 +5,8 @@ pub mod Bits
 pub mod Difference
 pub mod EqualityDigit
 pub mod OrderDigit
+pub mod Tests
+pub mod Lawful
 pub mod Digits
 pub mod Joining
 pub mod Writing

@@ -68,19 +68,14 @@ terms p z k (i ∷ is) = term p z i ∷ laterTerms p z (suc k) k is
 abbrev pub termStart : ℕ → ℕ → ℕ
 termStart p k = suc (zGate k) + powerCount p
 
--- powers and terms: "for i = 1, 3, .. p-2, p-1"
+-- powers and terms: "for i = 1, 3, .. p-2, p-1". "The sum is L.": the last of them
 abbrev pub lessGates : ℕ → ℕ → List Gate
 lessGates p k = powers p (zGate k) ++ terms p (zGate k) (termStart p k) (orderExponents p)
 
--- "The sum is L.": the last of the terms' p gates, of which (p+1)/2 are SCALEs
-abbrev pub lessGate : ℕ → ℕ → ℕ
-lessGate p k = termStart p k + (p - 1)
+-- how many they are: the terms are p gates, of which (p+1)/2 are SCALEs
+abbrev pub lessCount : ℕ → ℕ
+lessCount p = powerCount p + p
 
--- "Every digit but the lowest then FLIPs z^(p-1): E.": digit number j
-abbrev pub equalGates : ℕ → ℕ → ℕ → List Gate
-equalGates p zero k = []
-equalGates p (suc j) k = Flip (powerGate p (zGate k) (p - 1)) ∷ []
-
--- the gate of E
-abbrev pub equalGate : ℕ → ℕ → ℕ
-equalGate p k = suc (lessGate p k)
+-- "Every digit but the lowest then FLIPs z^(p-1): E."
+abbrev pub equalGates : ℕ → ℕ → List Gate
+equalGates p k = Flip (powerGate p (zGate k) (p - 1)) ∷ []

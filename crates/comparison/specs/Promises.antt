@@ -1,7 +1,8 @@
--- What is proved of one condition, for every odd prime p and any n from 1 on, written after any gates.
+-- What is proved of one condition, for any n from 1 on, written after any gates; where truth is claimed, for every odd prime p:
+-- by any lawful tests of its order digits, and by document 01's.
 -- Proved in `proofs/Condition.antt`.
 use mathlib.Core.Path.{_≡_}
-use mathlib.Core.Bool.{true, false}
+use mathlib.Core.Bool.{true}
 use mathlib.Core.List.{List, _++_}
 use Prim.Native.Nat.{ℕ, suc, _+_, _-_, _%_, _≤_}
 use lib.ListN.{length}
@@ -16,29 +17,60 @@ use Rattle.circuit.specs.Meaning.{entryAt}
 use Rattle.circuit.specs.Table.{Head, leftSlots, rightSlots, allFit}
 use Rattle.circuit.specs.TreePromises.{TwoLeast}
 use Rattle.circuit.specs.Value.{values}
-use Rattle.comparison.specs.Condition.{Condition, holds}
-use Rattle.comparison.specs.Digits.{digitsFrom}
+use Rattle.comparison.specs.Condition.{Condition, HasSlots, holds}
+use Rattle.comparison.specs.Digits.{equalityDigits}
 use Rattle.comparison.specs.Formulas.{conditionSize, conditionProducts, conditionSquares, conditionCost, costSummand}
+use Rattle.comparison.specs.Lawful.{Lawful}
 use Rattle.comparison.specs.Relation.{isOrder}
-use Rattle.comparison.specs.Writing.{equalityFactors, equalityJoining, conditionSegment}
+use Rattle.comparison.specs.Tests.{Tests}
+use Rattle.comparison.specs.Writing.{equalityFactors, equalityJoining, conditionBy, conditionSegment}
+
+-- ---- by any lawful tests
 
 -- "A condition's output is the last gate that it writes."
 abbrev pub OutputIsLast : Type 0
 OutputIsLast =
-    (p k : ℕ) (c : Condition) → 3 ≤ p → p % 2 ≡ 1 → 1 ≤ c .digits
-    → suc (conditionSegment p c k .output .gate) ≡ k + length (conditionSegment p c k .gates)
+    (p k : ℕ) (t : Tests) (c : Condition) → Lawful p t → 2 ≤ p → 1 ≤ c .digits
+    → suc (conditionBy t p c k .output .gate) ≡ k + length (conditionBy t p c k .gates)
 
--- its gates are as many as document 01 says
+-- it writes a gate at least
+abbrev pub ConditionWrites : Type 0
+ConditionWrites = (p k : ℕ) (t : Tests) (c : Condition) → Lawful p t → 2 ≤ p → 1 ≤ c .digits → 1 ≤ length (conditionBy t p c k .gates)
+
+-- its gates keep the rules of gates
+abbrev pub ConditionFits : Type 0
+ConditionFits =
+    (head : Head) (k : ℕ) (t : Tests) (c : Condition)
+    → Lawful (head .prime) t → 2 ≤ head .prime → HasSlots (leftSlots head) (rightSlots head) c
+    → allFit head k (conditionBy t (head .prime) c k .gates) ≡ true
+
+-- the output is 1 where the condition holds, and 0 otherwise
+abbrev pub ConditionHolds : Type 0
+ConditionHolds =
+    (p : ℕ) (t : Tests) (left right : List ℕ) (gates : List Gate) (c : Condition)
+    → Lawful p t → Prime p → 3 ≤ p → p % 2 ≡ 1 → HasSlots (length left) (length right) c
+    → allBelow (base p) left ≡ true → allBelow (base p) right ≡ true
+    → let written = conditionBy t p c (length gates) in
+    entryAt (values p left right) (gates ++ written .gates) (written .output .gate) ≡ bit (holds (base p) left right c)
+
+-- and is as deep as its node tells
+abbrev pub ConditionTells : Type 0
+ConditionTells =
+    (p : ℕ) (t : Tests) (gates : List Gate) (c : Condition) → Lawful p t → 2 ≤ p → 1 ≤ c .digits
+    → let written = conditionBy t p c (length gates) in
+    entryAt depths (gates ++ written .gates) (written .output .gate) ≡ written .output .depth
+
+-- ---- by document 01's
+
+-- that depth is ceil(log2(p-1)) + ceil(log2 n)
+abbrev pub ConditionDepth : Type 0
+ConditionDepth =
+    (p k : ℕ) (c : Condition) → 2 ≤ p → 1 ≤ c .digits → conditionSegment p c k .output .depth ≡ clog (p - 1) + clog (c .digits)
+
+-- the gates are as many as document 01 says
 abbrev pub ConditionSized : Type 0
 ConditionSized =
     (p k : ℕ) (c : Condition) → 3 ≤ p → p % 2 ≡ 1 → 1 ≤ c .digits → length (conditionSegment p c k .gates) ≡ conditionSize p c
-
--- they keep the rules of gates
-abbrev pub ConditionFits : Type 0
-ConditionFits =
-    (head : Head) (k : ℕ) (c : Condition) → 3 ≤ head .prime → head .prime % 2 ≡ 1 → 1 ≤ c .digits
-    → c .left + c .digits ≤ leftSlots head → c .right + c .digits ≤ rightSlots head
-    → allFit head k (conditionSegment (head .prime) c k .gates) ≡ true
 
 -- how many of them are products and squares
 abbrev pub ConditionCounts : Type 0
@@ -60,24 +92,7 @@ CostWithin = (p s : ℕ) (c : Condition) → 3 ≤ p → p % 2 ≡ 1 → 1 ≤ c
 -- "Equality joining: product tree over the digits.", by the rule for product trees
 abbrev pub EqualityTree : Type 0
 EqualityTree =
-    (p k : ℕ) (c : Condition) → 3 ≤ p → p % 2 ≡ 1 → 1 ≤ c .digits → isOrder (c .relation) ≡ false
-    → let next = k + length (digitsFrom p c k (c .digits) 0) in
+    (p k : ℕ) (c : Condition) → 2 ≤ p → 1 ≤ c .digits
+    → let next = k + length (equalityDigits p c k (c .digits) 0) in
     let joined = equalityJoining p c k next in
-    TwoLeast next (equalityFactors p c k (c .digits) 0) (joined .gates) (joined .output)
-
--- the output is 1 where the condition holds, and 0 otherwise
-abbrev pub ConditionHolds : Type 0
-ConditionHolds =
-    (p : ℕ) (left right : List ℕ) (gates : List Gate) (c : Condition) → Prime p → 3 ≤ p → p % 2 ≡ 1 → 1 ≤ c .digits
-    → c .left + c .digits ≤ length left → c .right + c .digits ≤ length right → allBelow (base p) left ≡ true
-    → allBelow (base p) right ≡ true
-    → let written = conditionSegment p c (length gates) in
-    entryAt (values p left right) (gates ++ written .gates) (written .output .gate) ≡ bit (holds (base p) left right c)
-
--- the output's depth is ceil(log2(p-1)) + ceil(log2 n), and its node tells it
-abbrev pub ConditionDepth : Type 0
-ConditionDepth =
-    (p : ℕ) (gates : List Gate) (c : Condition) → 3 ≤ p → p % 2 ≡ 1 → 1 ≤ c .digits
-    → let written = conditionSegment p c (length gates) in
-    (entryAt depths (gates ++ written .gates) (written .output .gate) ≡ written .output .depth)
-    × (written .output .depth ≡ clog (p - 1) + clog (c .digits))
+    TwoLeast next (equalityFactors p k (c .digits) 0) (joined .gates) (joined .output)

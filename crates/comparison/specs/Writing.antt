@@ -1,59 +1,68 @@
 -- One condition whole (document 01, "Writing one condition"): its digits, then their joining, then FLIP for relations 2, 4 and 6.
-use Prim.Native.Nat.{ℕ, zero, suc, _+_, _-_}
+use Prim.Native.Nat.{ℕ, zero, suc}
 use mathlib.Core.Bool.{Bool, true, false}
-use mathlib.Core.List.{List, [], _∷_, _++_}
-use lib.ListN.{length}
-use Rattle.field.specs.Logarithm.{clog}
+use mathlib.Core.List.{List, [], _∷_}
 use Rattle.circuit.specs.Gate.{Flip}
 use Rattle.circuit.specs.ProductTree.{productTree}
-use Rattle.circuit.specs.Segment.{Node, Segment}
+use Rattle.circuit.specs.Segment.{Node, Segment, followedBy}
 use Rattle.comparison.specs.Condition.{Condition}
-use Rattle.comparison.specs.Digits.{digitStart, digitsFrom}
-use Rattle.comparison.specs.Joining.{LowestRun, halves, joinLowest}
-use Rattle.comparison.specs.OrderDigit.{lessGate, equalGate}
+use Rattle.comparison.specs.Digits.{orderStart, orderDigits, equalityStart, equalityDigits}
+use Rattle.comparison.specs.Joining.{wholeRun}
 use Rattle.comparison.specs.Relation.{isOrder, isFlipped}
+use Rattle.comparison.specs.Tests.{noTest, testNode, Tests, lessNode, equalNode, baseTests, equalityTest}
 
--- "D = ceil(log2(p-1))": the depth of a digit's tests
-abbrev pub digitDepth : ℕ → ℕ
-digitDepth p = clog (p - 1)
+-- ---- order conditions, of which each digit has the tests t
 
--- the run of all digits, which are written from gate number k on, joined from gate number next on
-abbrev pub orderRun : ℕ → Condition → ℕ → ℕ → LowestRun
-orderRun p c k next =
-    joinLowest (λ j. lessGate p (digitStart p c k j)) (λ j. equalGate p (digitStart p c k j)) (halves (c .digits) 0 (c .digits)) next
+-- L and E of digit number j, where the digits are written from gate number k on
+abbrev pub lessOf : Tests → ℕ → ℕ → Node
+lessOf t k j = lessNode t (orderStart t k j)
 
--- order joining: L of the whole
-abbrev pub orderJoining : ℕ → Condition → ℕ → ℕ → Segment
-orderJoining p c k next = record {
-  gates = orderRun p c k next .gates;
-  output = record { gate = orderRun p c k next .less; depth = digitDepth p + clog (c .digits) };
-}
+abbrev pub equalOf : Tests → ℕ → ℕ → Node
+equalOf t k j = equalNode t (orderStart t k j)
 
--- the outputs of equality digits: n of them, from number j on; each is the last gate of its digit
-unfoldable pub equalityFactors : ℕ → Condition → ℕ → ℕ → ℕ → List Node
-equalityFactors p c k zero j = []
-equalityFactors p c k (suc n) j =
-    record { gate = digitStart p c k (suc j) - 1; depth = digitDepth p } ∷ equalityFactors p c k n (suc j)
+-- L of the whole, from gate number next on
+abbrev pub orderJoining : Tests → Condition → ℕ → ℕ → Segment
+orderJoining t c k next = wholeRun (lessOf t k) (equalOf t k) (c .digits) next
+
+unfoldable pub orderSegment : Tests → Condition → ℕ → Segment
+orderSegment t c k = followedBy k (orderDigits t c k (c .digits) 0) (orderJoining t c k)
+
+-- ---- equality conditions
+
+-- the test of digit number j, where the digits are written from gate number k on
+abbrev pub zeroOf : ℕ → ℕ → ℕ → Node
+zeroOf p k j = testNode noTest (equalityTest p) (equalityStart p k j)
+
+-- those of n digits, from number j on
+unfoldable pub equalityFactors : ℕ → ℕ → ℕ → ℕ → List Node
+equalityFactors p k zero j = []
+equalityFactors p k (suc n) j = zeroOf p k j ∷ equalityFactors p k n (suc j)
 
 -- "Equality joining: product tree over the digits."
 abbrev pub equalityJoining : ℕ → Condition → ℕ → ℕ → Segment
-equalityJoining p c k next = productTree next (equalityFactors p c k (c .digits) 0)
+equalityJoining p c k next = productTree next (equalityFactors p k (c .digits) 0)
 
-abbrev pub joining : Bool → ℕ → Condition → ℕ → ℕ → Segment
-joining true p c k next = orderJoining p c k next
-joining false p c k next = equalityJoining p c k next
+unfoldable pub equalitySegment : ℕ → Condition → ℕ → Segment
+equalitySegment p c k = followedBy k (equalityDigits p c k (c .digits) 0) (equalityJoining p c k)
 
--- with the FLIP of its output at the end, or as it is
-abbrev pub ending : Bool → ℕ → Segment → Segment
-ending false k s = s
-ending true k s = record {
-  gates = s .gates ++ (Flip (s .output .gate) ∷ []);
-  output = record { gate = k + length (s .gates); depth = s .output .depth };
-}
+-- ---- both
 
--- a condition, from gate number k on. The depth that its output node tells is that of its gate (`ConditionDepth`)
-unfoldable pub conditionSegment : ℕ → Condition → ℕ → Segment
-conditionSegment p c k =
-    let digits = digitsFrom p c k (c .digits) 0 in
-    let joined = joining (isOrder (c .relation)) p c k (k + length digits) in
-    ending (isFlipped (c .relation)) k (record { gates = digits ++ joined .gates; output = joined .output })
+abbrev pub segmentOf : Bool → Tests → ℕ → Condition → ℕ → Segment
+segmentOf true t p c k = orderSegment t c k
+segmentOf false t p c k = equalitySegment p c k
+
+-- "Relations 2 and 4 end with FLIP."; "Relation 6 ends with FLIP.": of an output, from gate number k on, or nothing
+abbrev pub ending : Bool → Node → ℕ → Segment
+ending false output k = record { gates = []; output = output }
+ending true output k = record { gates = Flip (output .gate) ∷ []; output = record { gate = k; depth = output .depth } }
+
+-- a condition, from gate number k on, whose order digits have the tests t.
+-- By lawful ones the depth that its output node tells is that of its gate (`ConditionTells`)
+unfoldable pub conditionBy : Tests → ℕ → Condition → ℕ → Segment
+conditionBy t p c k =
+    let s = segmentOf (isOrder (c .relation)) t p c k in
+    followedBy k (s .gates) (ending (isFlipped (c .relation)) (s .output))
+
+-- document 01's
+abbrev pub conditionSegment : ℕ → Condition → ℕ → Segment
+conditionSegment p c k = conditionBy (baseTests p) p c k

@@ -6,25 +6,25 @@ use writer::Slots;
 use writer::Written;
 ghost use mathlib.Core.Path.{_≡_};
 ghost use mathlib.Core.Bool.{true};
-ghost use Prim.Native.Nat.{_+_, _%_, _≤_, _<_};
 ghost use lib.ListN.{length};
 ghost use Rattle.field.specs.Bit.{bit};
-ghost use Rattle.comparison.specs.OrderDigit.{powerCount};
+ghost use Rattle.digits.specs.Number.{mostDigits};
+ghost use Rattle.comparison.specs.Condition.{HasSlots};
 ghost use Rattle.comparison.specs.Relation.{isOrder};
-ghost use Rattle.comparison.specs.Writing.{conditionSegment};
-ghost use Rattle.order.specs.Constants.{Constants};
-ghost use Rattle.powers.specs.Powers.{Deep};
+ghost use Rattle.comparison.specs.Writing.{ending, conditionSegment};
+ghost use Rattle.order.specs.Prepared.{Prepared};
+ghost use Rattle.writer.specs.Modulus.{Modulus};
 ghost use Rattle.writer.specs.Nodes.{nodeIs};
 ghost use Rattle.writer.specs.Pen.{Wrote, Room, Moved};
 ghost use Rattle.relations.specs.Relations.{relationIs};
-ghost use Rattle.condition.specs.Condition.{conditionIs, flipGates, flipNode, InSlots};
+ghost use Rattle.condition.specs.Condition.{conditionIs};
 
 // A condition with the FLIP of its output at the end, or as it is.
 fn put_ending(table: &mut [u8], written: Written, flipped: bool) -> Written
     requires { ⌜ Room (now table) (written .pen) (bit flipped) ⌝ }
-    ensures wrote { λ r. ⌜ Wrote (now (table .entry)) (written .pen) (flipGates flipped (written .node .gate)) (now (table .exit)) (r .pen) ⌝ }
+    ensures wrote { λ r. ⌜ Wrote (now (table .entry)) (written .pen) (ending flipped (nodeIs (written .node)) (written .pen .next) .gates) (now (table .exit)) (r .pen) ⌝ }
     ensures moves { λ r. ⌜ Moved (written .pen) (bit flipped) (r .pen) ⌝ }
-    ensures output { λ r. ⌜ nodeIs (r .node) ≡ flipNode flipped (written .pen .next) (nodeIs (written .node)) ⌝ }
+    ensures output { λ r. ⌜ nodeIs (r .node) ≡ ending flipped (nodeIs (written .node)) (written .pen .next) .output ⌝ }
 {
     if flipped {
         let pen = written.pen;
@@ -48,8 +48,9 @@ pub fn put_condition(
     constants: &[u8],
     powers: &[u16],
 ) -> Written
-    requires { ⌜ Room (now table) pen (length (conditionSegment p (conditionIs relation slots) (pen .next) .gates)) × (3 ≤ p) × (p % 2 ≡ 1) × (p < 256) × InSlots (conditionIs relation slots) ⌝ }
-    requires { ⌜ ((isOrder (relationIs relation) ≡ true) → Constants p (now constants) × Deep p (now powers) (powerCount p + 1)) × (powerCount p < length (now powers)) ⌝ }
+    requires { ⌜ Room (now table) pen (length (conditionSegment p (conditionIs relation slots) (pen .next) .gates)) ⌝ }
+    requires { ⌜ Modulus p × HasSlots mostDigits mostDigits (conditionIs relation slots) ⌝ }
+    requires { ⌜ ((isOrder (relationIs relation) ≡ true) → Prepared p (now constants) (now powers)) ⌝ }
     ensures wrote { λ r. ⌜ Wrote (now (table .entry)) pen (conditionSegment p (conditionIs relation slots) (pen .next) .gates) (now (table .exit)) (r .pen) ⌝ }
     ensures moves { λ r. ⌜ Moved pen (length (conditionSegment p (conditionIs relation slots) (pen .next) .gates)) (r .pen) ⌝ }
     ensures output { λ r. ⌜ nodeIs (r .node) ≡ conditionSegment p (conditionIs relation slots) (pen .next) .output ⌝ }

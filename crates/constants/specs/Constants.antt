@@ -5,6 +5,10 @@ use lib.ListN.{length, getD}
 use Rattle.field.specs.Modular.{residue, mulMod}
 use Rattle.field.specs.Polynomials.{everySecond, orderConstant}
 
+-- room for the order constants of any odd p that is a byte: one for each odd exponent below p, and one for p - 1
+abbrev pub mostConstants : ℕ
+mostConstants = 128
+
 -- f 0, f 1, .. f (n - 1)
 unfoldable pub firstValues : ℕ → (ℕ → ℕ) → List ℕ
 firstValues zero f = []

@@ -3,12 +3,13 @@ ghost use mathlib.Core.Path.{_≡_};
 ghost use mathlib.Core.List.{_++_};
 ghost use Prim.Native.Nat.{_+_, _/_, _%_, _≤_, _<_};
 ghost use lib.ListN.{length, drop};
+ghost use Rattle.field.specs.Byte.{byteValues};
 ghost use Rattle.field.specs.Modular.{residue, mulMod};
 ghost use Rattle.field.specs.Sum.{total};
 ghost use Rattle.field.specs.Polynomials.{orderConstants};
 ghost use Rattle.constants.specs.Constants.{oneTo, productsMod, powersMod, oddConstants};
 
-// Room for the order constants of any odd p below 256: one for each odd exponent below p, and one for p - 1.
+// Room for the order constants of any odd p that is a byte: one for each odd exponent below p, and one for p - 1.
 pub const MOST_CONSTANTS: usize = 128;
 
 // How often p goes into 65,536. With it a remainder takes two products and no division.
@@ -42,7 +43,7 @@ fn mul_reduced(a: u8, b: u8, p: u8, reciprocal: u16) -> u8
 
 // Puts 1, 2, 3, .. into the list.
 fn put_ascending(list: &mut [u8])
-    requires { ⌜ length (now list) < 256 ⌝ }
+    requires { ⌜ length (now list) < byteValues ⌝ }
     ensures { λ _. ⌜ now (list .exit) ≡ oneTo (length (now (list .entry))) ⌝ }
 {
     let mut b = 0;
@@ -54,7 +55,7 @@ fn put_ascending(list: &mut [u8])
 
 // Puts the squares of 1, 2, 3, .. modulo p into the list.
 fn put_squares(list: &mut [u8], p: u8)
-    requires { ⌜ length (now list) < 256 ⌝ }
+    requires { ⌜ length (now list) < byteValues ⌝ }
     ensures { λ _. ⌜ now (list .exit) ≡ powersMod p 2 (length (now (list .entry))) ⌝ }
 {
     let mut i = 0;
@@ -79,7 +80,7 @@ fn multiply_each(list: &mut [u8], factors: &[u8], p: u8, reciprocal: u16)
 
 // The sum of the entries modulo p.
 fn sum_mod(list: &[u8], p: u8) -> u8
-    requires { ⌜ length (now list) < 256 ⌝ }
+    requires { ⌜ length (now list) < byteValues ⌝ }
     ensures { λ r. ⌜ r ≡ residue p (total (now (list .entry))) ⌝ }
 {
     let mut sum: u16 = 0;

@@ -12,7 +12,7 @@ use lib.ListN.{length, length-append}
 use Rattle.field.specs.Bit.{bit}
 use Rattle.field.specs.Logarithm.{flog}
 use Rattle.circuit.specs.Gate.{Gate, Flip, Mul}
-use Rattle.circuit.specs.ProductTree.{times}
+use Rattle.circuit.specs.Segment.{times}
 use Rattle.circuit.specs.Segment as segment
 use Rattle.comparison.specs.Bits.{bits, ones}
 use Rattle.comparison.specs.EqualityDigit.{Collected, nothing, power, chain, zeroChain}

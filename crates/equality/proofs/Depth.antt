@@ -10,7 +10,7 @@ use lib.Pow.{pow-pos}
 use Rattle.field.specs.Bit.{bit}
 use Rattle.field.specs.Logarithm.{clog}
 use Rattle.field.proofs.Logarithm.{clog-is-ceiling, clog-power}
-use Rattle.circuit.specs.ProductTree.{times}
+use Rattle.circuit.specs.Segment.{times}
 use Rattle.circuit.specs.Segment as segment
 use Rattle.comparison.proofs.Bits.{bit-of}
 use Rattle.comparison.proofs.EqualityDigit.{deeper}

@@ -7,16 +7,15 @@ use Prim.Native.Nat.{ℕ, suc, _+_, _-_, _≤_, _<_}
 use native.Mathlib.Omega.{arith}
 use native.Mathlib.Numerals.{add-one}
 use lib.ListN.{length, take, set, length-append}
-use Rattle.field.specs.Logarithm.{flog}
 use Rattle.circuit.specs.Gate.{Gate, Left, Right}
 use Rattle.circuit.specs.Segment.{Node}
 use Rattle.circuit.proofs.Records.{one-less}
-use Rattle.comparison.specs.Bits.{bits, ones}
+use Rattle.comparison.specs.Bits.{bits}
 use Rattle.comparison.specs.Difference.{minus, difference, zGate}
-use Rattle.comparison.specs.Digits.{digitStart, digitsFrom}
+use Rattle.comparison.specs.Digits.{digitsFrom, equalityDigit, equalityDigitSize, equalityStart, equalityDigits}
 use Rattle.comparison.specs.EqualityDigit.{zeroChain, zeroGates}
 use Rattle.comparison.specs.Relation.{Equal}
-use Rattle.comparison.specs.Writing.{digitDepth, equalityFactors}
+use Rattle.comparison.specs.Writing.{zeroOf, equalityFactors}
 use Rattle.comparison.proofs.Digits.{digits-cons}
 use Rattle.comparison.proofs.EqualityDigit.{zero-length}
 use Rattle.writer.specs.declared.Pen.{Pen}
@@ -43,26 +42,26 @@ digit-wrote {table₁ = table₁} {table₂ = table₂} {pen = pen} {pen₁ = pe
 
 module _ (p : ℕ) (slots : Slots) (k n j : ℕ) (l : j < n) where
   abbrev laterDigits : List Gate
-  laterDigits = digitsFrom p (equalityCondition slots) k (n - (j + 1)) (j + 1)
+  laterDigits = equalityDigits p (equalityCondition slots) k (n - (j + 1)) (j + 1)
 
   abbrev digit : ℕ → List Gate
   digit next = difference Equal (slots .left + j) (slots .right + j) next ++ zeroGates p next
 
   -- a digit and the later ones
-  digits-from : (next : ℕ) → next ≡ digitStart p (equalityCondition slots) k j
-      → digitsFrom p (equalityCondition slots) k (n - j) j ≡ digit next ++ laterDigits
-  digits-from next e = rw e (digits-cons p (equalityCondition slots) k n j l)
+  digits-from : (next : ℕ) → next ≡ equalityStart p k j
+      → equalityDigits p (equalityCondition slots) k (n - j) j ≡ digit next ++ laterDigits
+  digits-from next e = rw e (digits-cons (equalityDigit p (equalityCondition slots)) (equalityStart p k) n j l)
 
   pub after-digit : {table table₁ table₂ : List ℕ} {pen pen₁ pen₂ : Pen} {all : List Gate}
-      → pen₁ .next ≡ digitStart p (equalityCondition slots) k j
-      → Remains table pen all table₁ pen₁ (digitsFrom p (equalityCondition slots) k (n - j) j)
+      → pen₁ .next ≡ equalityStart p k j
+      → Remains table pen all table₁ pen₁ (equalityDigits p (equalityCondition slots) k (n - j) j)
       → Wrote table₁ pen₁ (digit (pen₁ .next)) table₂ pen₂
       → Remains table pen all table₂ pen₂ laterDigits
   after-digit {pen₁ = pen₁} e r w = remains-then {gs = digit (pen₁ .next)} (remains-as (digits-from (pen₁ .next) e) r) w
 
   -- they have room for it
-  pub digit-room : (next : ℕ) → 2 ≤ p → next ≡ digitStart p (equalityCondition slots) k j
-      → 3 + flog (p - 1) + ones (p - 1) ≤ length (digitsFrom p (equalityCondition slots) k (n - j) j)
+  pub digit-room : (next : ℕ) → 2 ≤ p → next ≡ equalityStart p k j
+      → equalityDigitSize p ≤ length (equalityDigits p (equalityCondition slots) k (n - j) j)
   digit-room next two e =
       omega (
         arith,
@@ -74,19 +73,16 @@ module _ (p : ℕ) (slots : Slots) (k n j : ℕ) (l : j < n) where
 
   -- ---- outputs
 
-  abbrev output : Node
-  output = record { gate = digitStart p (equalityCondition slots) k (suc j) - 1; depth = digitDepth p }
-
   abbrev laterOutputs : List Node
-  laterOutputs = equalityFactors p (equalityCondition slots) k (n - (j + 1)) (j + 1)
+  laterOutputs = equalityFactors p k (n - (j + 1)) (j + 1)
 
-  outputs-cons : equalityFactors p (equalityCondition slots) k (n - j) j ≡ output ∷ laterOutputs
+  outputs-cons : equalityFactors p k (n - j) j ≡ zeroOf p k j ∷ laterOutputs
   unfolding equalityFactors
   outputs-cons = rw (one-less n j l, add-one j)
 
   -- a digit's output goes to its place
-  pub outputs-next : (gates depths : List ℕ) (node : Node) {all : List Node} → n ≤ length gates → n ≤ length depths → node ≡ output
-      → nodes (take j gates) (take j depths) ++ equalityFactors p (equalityCondition slots) k (n - j) j ≡ all
+  pub outputs-next : (gates depths : List ℕ) (node : Node) {all : List Node} → n ≤ length gates → n ≤ length depths → node ≡ zeroOf p k j
+      → nodes (take j gates) (take j depths) ++ equalityFactors p k (n - j) j ≡ all
       → nodes (take (j + 1) (set gates j (node .gate))) (take (j + 1) (set depths j (node .depth))) ++ laterOutputs ≡ all
   outputs-next gates depths node lg ld e h =
       let before = nodes (take j gates) (take j depths) in
@@ -97,12 +93,12 @@ module _ (p : ℕ) (slots : Slots) (k n j : ℕ) (l : j < n) where
       ∙ h
 
 -- no digit is left
-pub no-digits : (p : ℕ) (slots : Slots) (k n j : ℕ) → n ≤ j → digitsFrom p (equalityCondition slots) k (n - j) j ≡ []
+pub no-digits : (p : ℕ) (slots : Slots) (k n j : ℕ) → n ≤ j → equalityDigits p (equalityCondition slots) k (n - j) j ≡ []
 unfolding digitsFrom
 no-digits p slots k n j l = let e : n - j ≡ 0 = omega arith in rw e
 
 pub no-outputs : (p : ℕ) (slots : Slots) (k n j : ℕ) (gates depths : List ℕ) {all : List Node} → j ≡ n
-    → nodes (take j gates) (take j depths) ++ equalityFactors p (equalityCondition slots) k (n - j) j ≡ all
+    → nodes (take j gates) (take j depths) ++ equalityFactors p k (n - j) j ≡ all
     → nodes (take n gates) (take n depths) ≡ all
 unfolding equalityFactors
 no-outputs p slots k n j gates depths e h =

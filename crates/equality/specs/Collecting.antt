@@ -4,8 +4,7 @@ use mathlib.Core.Bool.{Bool, true, false}
 use mathlib.Core.List.{List, [], _∷_}
 use Prim.Native.Nat.{ℕ}
 use Rattle.circuit.specs.Gate.{Gate, Mul}
-use Rattle.circuit.specs.ProductTree.{times}
-use Rattle.circuit.specs.Segment.{Node}
+use Rattle.circuit.specs.Segment.{Node, times}
 use Rattle.comparison.specs.Bits.{bits}
 use Rattle.comparison.specs.EqualityDigit.{power, chain}
 use Rattle.writer.specs.declared.Written.{Written}

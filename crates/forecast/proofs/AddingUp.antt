@@ -12,7 +12,6 @@ use Rattle.answer.proofs.Outcome.{onAnswer-same}
 use Rattle.field.specs.Logarithm.{clog}
 use Rattle.field.specs.Sum.{total}
 use Rattle.comparison.specs.Condition.{Condition}
-use Rattle.comparison.specs.Formulas.{conditionSize, conditionProducts, conditionSquares}
 use Rattle.query.specs.Card.{mostConditions}
 use Rattle.query.specs.Reading.{readCondition, readConditions}
 use Rattle.forecast.specs.Counting.{digitCounts, conditionCounts, mostInCondition, Within, totalsOf, noTotals, totalsRead, TotalsWithin}
@@ -72,11 +71,7 @@ one-more : (p : ℕ) (t : Totals) (c : Condition) (own : Counts) (power : ℕ) (
 unfolding total
 one-more p t c own power (refused number) e f = refl
 one-more p t c own power (accepted cs) e f =
-    let counts = e ∙ condition-is p c in
-    let gates : own .gates ≡ conditionSize p c = ap (λ (x : Counts). x .gates) counts in
-    let products : own .products ≡ conditionProducts p c = ap (λ (x : Counts). x .products) counts in
-    let squares : own .squares ≡ conditionSquares p c = ap (λ (x : Counts). x .squares) counts in
-    rw (gates, products, squares, f) (totals-same (omega arith) (omega arith) (omega arith) (omega arith))
+    rw (e ∙ condition-is p c, f) (totals-same (omega arith) (omega arith) (omega arith) (omega arith))
 
 module _ (p : ℕ) (records : List ℕ) (count k : ℕ) (t whole : Totals) (l : k < count) (a : Adds p records count k t whole) where
   -- what is left, from this record on

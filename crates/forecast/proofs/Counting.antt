@@ -11,10 +11,10 @@ use Rattle.field.proofs.Logarithm.{clog-is-ceiling}
 use Rattle.digits.specs.Number.{mostDigits}
 use Rattle.comparison.specs.Bits.{bits, setBits, ones}
 use Rattle.comparison.specs.Condition.{Condition}
-use Rattle.comparison.specs.Formulas.{gatesBeforeFlip, productsOf, squaresOf, conditionSize, conditionProducts, conditionSquares}
+use Rattle.comparison.specs.Formulas.{conditionSize, conditionProducts, conditionSquares}
 use Rattle.comparison.specs.Relation.{Relation, isOrder, isFlipped}
 use Rattle.comparison.proofs.Bits.{bits-cons, worth, bits-worth}
-use Rattle.forecast.specs.Counting.{mostInDigit, Within, digitCounts, joinedCounts, endedCounts, ofSort, conditionCounts}
+use Rattle.forecast.specs.Counting.{mostInDigit, Within, digitCounts, endedCounts, ofSort, conditionCounts}
 use Rattle.forecast.specs.declared.Counts.{Counts}
 
 -- ---- set bits
@@ -63,17 +63,16 @@ doubles-end n power most d =
 pub unflipped : (r : Relation) (joined : Counts) → isFlipped r ≡ false → joined ≡ endedCounts r joined
 unflipped r joined e = rw (e, add-zero (joined .gates))
 
-joined-is : (order : Bool) (p n : ℕ)
-    → joinedCounts order n (ofSort order (digitCounts true p) (digitCounts false p))
-    ≡ record { gates = gatesBeforeFlip order p n; products = productsOf order p n; squares = squaresOf order p n }
-joined-is true p n = refl
-joined-is false p n = refl
+-- those of both sorts, and the one that is picked
+of-sort : (order : Bool) (p : ℕ) → ofSort order (digitCounts true p) (digitCounts false p) ≡ digitCounts order p
+of-sort true p = refl
+of-sort false p = refl
 
 -- they are those of the formulas
 pub condition-is : (p : ℕ) (c : Condition)
     → conditionCounts (c .relation) (c .digits) (digitCounts true p) (digitCounts false p)
     ≡ record { gates = conditionSize p c; products = conditionProducts p c; squares = conditionSquares p c }
-condition-is p c = ap (endedCounts (c .relation)) (joined-is (isOrder (c .relation)) p (c .digits))
+condition-is p c = rw (of-sort (isOrder (c .relation)) p)
 
 -- ---- how large the numbers can be
 

@@ -1,16 +1,15 @@
 -- What Forecast adds up: the counts of a digit, of a condition and of all conditions (document 01, "Whole card"),
 -- and the report that they make. That they are those of the formulas is proved in `proofs/Counting.antt`.
-use Prim.Native.Nat.{ℕ, _+_, _-_, _*_, _/_, _^_, _≤_}
+use Prim.Native.Nat.{ℕ, _+_, _-_, _*_, _^_, _≤_}
 use mathlib.Core.Bool.{Bool, true, false}
 use mathlib.Core.List.{List}
 use Rattle.answer.specs.Outcome.{onAnswer}
-use Rattle.answer.specs.Report.{Report}
-use Rattle.field.specs.Bit.{bit}
-use Rattle.field.specs.Logarithm.{flog, clog}
-use Rattle.comparison.specs.Bits.{ones}
+use Rattle.answer.specs.Report.{Report, costOf}
+use Rattle.field.specs.Logarithm.{clog}
+use Rattle.circuit.specs.Table.{mostWeight}
 use Rattle.comparison.specs.Condition.{Condition}
-use Rattle.comparison.specs.Formulas.{conditionSize, conditionProducts, conditionSquares}
-use Rattle.comparison.specs.Relation.{Relation, isOrder, isFlipped}
+use Rattle.comparison.specs.Formulas.{digitSize, joinedSize, digitProducts, joinedProducts, digitSquares, joinedSquares, endedSize, conditionSize, conditionProducts, conditionSquares}
+use Rattle.comparison.specs.Relation.{Relation, isOrder}
 use Rattle.query.specs.Card.{mostConditions}
 use Rattle.query.specs.Formulas.{overConditions}
 use Rattle.query.specs.Reading.{readConditions}
@@ -20,28 +19,22 @@ use Rattle.forecast.specs.declared.Totals.{Totals}
 
 -- ---- one condition
 
--- a digit of an order condition, and of an equality condition
+-- a digit, by the sort of its condition; of an order digit without E, which has neither product nor square
 abbrev pub digitCounts : Bool → ℕ → Counts
-digitCounts true p = record { gates = p + 4 + (p - 3) / 2 + (p - 1) / 4; products = (p - 3) / 2; squares = (p - 1) / 4 + 1 }
-digitCounts false p = record { gates = 3 + flog (p - 1) + ones (p - 1); products = ones (p - 1) - 1; squares = flog (p - 1) }
+digitCounts order p = record { gates = digitSize order p; products = digitProducts order p; squares = digitSquares order p }
 
 -- n digits and their joining
 abbrev pub joinedCounts : Bool → ℕ → Counts → Counts
-joinedCounts true n digit = record {
-  gates = n * digit .gates + 4 * (n - 1) - flog n;
-  products = n * digit .products + (2 * n - 2 - flog n);
-  squares = n * digit .squares;
-}
-joinedCounts false n digit = record {
-  gates = n * digit .gates + (n - 1);
-  products = n * digit .products + (n - 1);
-  squares = n * digit .squares;
+joinedCounts order n digit = record {
+  gates = joinedSize order n (digit .gates);
+  products = joinedProducts order n (digit .products);
+  squares = joinedSquares n (digit .squares);
 }
 
--- "plus 1 for relations 2 and 4"; "plus 1 for relation 6"
+-- with the FLIP of its relation, if that ends with one
 abbrev pub endedCounts : Relation → Counts → Counts
 endedCounts r joined =
-    record { gates = joined .gates + bit (isFlipped r); products = joined .products; squares = joined .squares }
+    record { gates = endedSize r (joined .gates); products = joined .products; squares = joined .squares }
 
 -- a digit of the sort that the relation asks for
 abbrev pub ofSort : Bool → Counts → Counts → Counts
@@ -55,8 +48,8 @@ conditionCounts r n order equality = endedCounts r (joinedCounts (isOrder r) n (
 abbrev pub mostInDigit : ℕ
 mostInDigit = 450
 
-abbrev pub mostJoined : ℕ
-mostJoined = 7260
+abbrev pub mostBeforeFlip : ℕ
+mostBeforeFlip = 7260
 
 abbrev pub mostInCondition : ℕ
 mostInCondition = 7261
@@ -91,14 +84,14 @@ TotalsWithin k t =
 
 -- what an accepted card says is in its ranges
 abbrev pub InRanges : Summary → Type 0
-InRanges said = (3 ≤ said .prime) × (said .prime ≤ 251) × (said .weight ≤ 100) × (1 ≤ said .count) × (said .count ≤ mostConditions)
+InRanges said = (3 ≤ said .prime) × (said .prime ≤ 251) × (said .weight ≤ mostWeight) × (1 ≤ said .count) × (said .count ≤ mostConditions)
 
--- "plus c-1", 100 for each product and s for each square, and the depth
+-- "plus c-1", the cost of the two counts, and the depth
 abbrev pub reportFrom : Summary → Totals → Report
 reportFrom said t = record {
   gates = t .gates + (said .count - 1);
   products = t .products + (said .count - 1);
   squares = t .squares;
-  cost = 100 * (t .products + (said .count - 1)) + said .weight * t .squares;
+  cost = costOf (said .weight) (t .products + (said .count - 1)) (t .squares);
   depth = clog (said .prime - 1) + clog (t .breadth);
 }

@@ -20,7 +20,7 @@ ghost use Rattle.digits.specs.Number.{mostDigits};
 ghost use Rattle.comparison.specs.Bits.{ones};
 ghost use Rattle.query.specs.Card.{mostConditions};
 ghost use Rattle.query.specs.Outcomes.{forecasting};
-ghost use Rattle.forecast.specs.Counting.{mostInDigit, mostJoined, mostInCondition, Within, digitCounts, joinedCounts, endedCounts, conditionCounts, TotalsWithin, totalsRead, InRanges, reportFrom};
+ghost use Rattle.forecast.specs.Counting.{mostInDigit, mostBeforeFlip, mostInCondition, Within, digitCounts, joinedCounts, endedCounts, conditionCounts, TotalsWithin, totalsRead, InRanges, reportFrom};
 ghost use Rattle.relations.specs.Relations.{relationIs};
 ghost use Rattle.card.specs.Parts.{headIs, readSummary};
 
@@ -95,7 +95,7 @@ fn equality_digit(prime: u8) -> Counts
 // What n digits and their order joining have.
 fn join_order(n: u8, digit: Counts) -> Counts
     requires { ⌜ (1 ≤ n) × (n ≤ mostDigits) × Within mostInDigit digit ⌝ }
-    ensures { λ r. ⌜ (r ≡ joinedCounts true n digit) × Within mostJoined r ⌝ }
+    ensures { λ r. ⌜ (r ≡ joinedCounts true n digit) × Within mostBeforeFlip r ⌝ }
 {
     let digits = n as u32;
     let log = arithmetic::floor_log2(n as u16) as u32;
@@ -109,7 +109,7 @@ fn join_order(n: u8, digit: Counts) -> Counts
 // What n digits and their product tree have.
 fn join_equality(n: u8, digit: Counts) -> Counts
     requires { ⌜ (1 ≤ n) × (n ≤ mostDigits) × Within mostInDigit digit ⌝ }
-    ensures { λ r. ⌜ (r ≡ joinedCounts false n digit) × Within mostJoined r ⌝ }
+    ensures { λ r. ⌜ (r ≡ joinedCounts false n digit) × Within mostBeforeFlip r ⌝ }
 {
     let digits = n as u32;
     Counts {
@@ -121,7 +121,7 @@ fn join_equality(n: u8, digit: Counts) -> Counts
 
 // With the FLIP of its relation, if that ends with one.
 fn end_condition(relation: Relation, joined: Counts) -> Counts
-    requires { ⌜ Within mostJoined joined ⌝ }
+    requires { ⌜ Within mostBeforeFlip joined ⌝ }
     ensures { λ r. ⌜ (r ≡ endedCounts (relationIs relation) joined) × Within mostInCondition r ⌝ }
 {
     if relations::is_flipped(relation) {

@@ -1,19 +1,18 @@
 -- Laws of joining by halves: the tree of a run is that of its low half joined to that of the rest, each at its own count of digits,
--- which is enough to bound the splits; it is one level deeper than its deeper half; and its gates are those of its halves and two,
--- where it holds digit 0.
--- The tree by induction over the bound of the splits; depth and gates by the halving of clog and flog.
+-- which is enough to bound the splits; and its gates are those of its halves and two, where it holds digit 0.
+-- The tree by induction over the bound of the splits; the gates by the halving of flog.
 -- Assumes nothing.
 use mathlib.Core.Path.{_≡_, refl, ap₂}
 use mathlib.Core.Bool.{Bool, true, false}
-use Prim.Native.Nat.{ℕ, zero, suc, _+_, _-_, _*_, _/_, _≤_, _<_, max}
+use Prim.Native.Nat.{ℕ, zero, suc, _+_, _-_, _*_, _/_, _≤_, _<_}
 use native.Mathlib.Omega.{arith}
 use lib.Dec.{leb}
 use lib.ListN.{length}
 use borrow.Author.Tests.{le-leb, lt-leb, leb-false}
-use Rattle.field.specs.Logarithm.{clog}
-use Rattle.field.proofs.Logarithm.{clog-half, clog-mono, flog-half}
+use Rattle.field.proofs.Logarithm.{flog-half}
+use Rattle.circuit.specs.Segment.{Node}
 use Rattle.circuit.specs.Tree.{Tree, leaf, join}
-use Rattle.comparison.specs.Joining.{halves, joinLowest}
+use Rattle.comparison.specs.Joining.{halves, wholeRun}
 use Rattle.comparison.proofs.JoiningCount.{joining-length}
 
 -- ---- the tree
@@ -52,18 +51,9 @@ halves-join first (suc f) more =
     (enough f (m / 2) first (m / 2) (omega arith) (omega arith))
     (enough f (m - m / 2) (first + m / 2) (m - m / 2) (omega arith) (omega arith)))
 
--- ---- depth
-
-pub clog-join : (m : ℕ) → 1 < m → clog m ≡ suc (max (clog (m / 2)) (clog (m - m / 2)))
-clog-join m more =
-    let rest : (m + 1) / 2 ≡ m - m / 2 = omega arith in
-    let up : clog (m / 2) ≤ clog (m - m / 2) = clog-mono (omega arith) in
-    omega (arith, rw rest at (clog-half m more))
-
 -- ---- how many gates: those of the low half, three for each digit of the rest but one, and two
 
-pub joining-split : (less equal : ℕ → ℕ) (n k : ℕ) → 1 < n
-    → length (joinLowest less equal (halves n 0 n) k .gates)
-    ≡ length (joinLowest less equal (halves (n / 2) 0 (n / 2)) k .gates) + 3 * (n - n / 2 - 1) + 2
+pub joining-split : (less equal : ℕ → Node) (n k : ℕ) → 1 < n
+    → length (wholeRun less equal n k .gates) ≡ length (wholeRun less equal (n / 2) k .gates) + 3 * (n - n / 2 - 1) + 2
 joining-split less equal n k more =
     omega (arith, joining-length less equal n k (omega arith), joining-length less equal (n / 2) k (omega arith), flog-half n more)

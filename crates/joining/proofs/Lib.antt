@@ -1,4 +1,4 @@
 -- Laws of order joining.
-pub mod Bounds
 pub mod Halving
 pub mod Joins
+pub mod Depth

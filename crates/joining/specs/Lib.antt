@@ -1,2 +1,2 @@
--- Only serves contracts of functions inside: the gates of L and E of each digit.
-pub mod Tests
+-- Only serves contracts of functions inside: the nodes of L and E of each digit, as they are lent.
+pub mod Listed

@@ -1,109 +1,142 @@
-// Order joining: the tests of a condition's digits into one.
+// Order joining: L and E of digits, or of runs of digits, into one.
 use writer::Node;
 use writer::Pen;
 use writer::Written;
 ghost use mathlib.Core.Path.{_≡_};
-ghost use mathlib.Core.List.{[], _∷_};
-ghost use Prim.Native.Nat.{_+_, _-_, _*_, _≤_, _<_};
+ghost use mathlib.Core.List.{[], _∷_, _++_};
+ghost use Prim.Native.Nat.{suc, _+_, _-_, _*_, _≤_, _<_};
 ghost use lib.ListN.{length};
-ghost use Rattle.field.specs.Logarithm.{clog};
-ghost use Rattle.circuit.specs.Gate.{Add, Mul};
+ghost use Rattle.circuit.specs.Gate.{Mul};
+ghost use Rattle.circuit.specs.Segment.{times};
 ghost use Rattle.circuit.specs.Table.{mostGates};
-ghost use Rattle.comparison.specs.Joining.{halves, joinRun, joinLowest};
+ghost use Rattle.comparison.specs.Joining.{lessJoin, joinedLess};
+ghost use Rattle.writer.specs.Nodes.{nodeIs};
 ghost use Rattle.writer.specs.Pen.{Wrote, Room, Moved};
-ghost use Rattle.joining.specs.Tests.{lessOf, equalOf};
+ghost use Rattle.joining.specs.Listed.{nodeAt, listedRun, listedWhole, Joinable, ShallowRun};
 
-// What joining leaves of a run: the pen, the gates of its L and its E, and their depth.
+// What joining leaves of a run: the pen, and the nodes of its L and its E.
 struct Joined {
     pen: Pen,
-    less: u16,
-    equal: u16,
-    depth: u16,
+    less: Node,
+    equal: Node,
 }
 
-// The gate of L of digit number j, of digits written from gate number k on; that of E is the next.
-// A digit has four gates beside its powers and terms: LEFT, RIGHT, z and E, which the lowest lacks.
-fn less_gate(p: u16, k: u16, j: u16) -> u16
-    requires { ⌜ (3 ≤ p) × (p < 256) × (k ≤ mostGates) × (j ≤ 16) ⌝ }
-    ensures { λ r. ⌜ r ≡ lessOf p k j ⌝ }
+// Node number j of two lists.
+fn node_at(gates: &[u16], depths: &[u16], j: u16) -> Node
+    requires { ⌜ (j < length (now gates)) × (j < length (now depths)) ⌝ }
+    ensures { λ r. ⌜ nodeIs r ≡ nodeAt (now (gates .entry)) (now (depths .entry)) j ⌝ }
 {
-    let half = (p - 1) / 2;
-    let sum = half + half / 2 + p;
-    if j == 0 {
-        return k + 2 + sum;
+    Node {
+        gate: gates[j as usize],
+        depth: depths[j as usize],
     }
-    k + ((sum + 4) * j - 1) + 2 + sum
 }
 
 // L of a join: the high part is smaller, or the high parts are equal and the low part is smaller.
-fn put_less(table: &mut [u8], pen: Pen, low: u16, high: u16, equal: u16) -> Pen
-    requires { ⌜ Room (now table) pen 2 ⌝ }
-    ensures wrote { λ r. ⌜ Wrote (now (table .entry)) pen (Mul equal low ∷ Add high (pen .next) ∷ []) (now (table .exit)) r ⌝ }
-    ensures moves { λ r. ⌜ Moved pen 2 r ⌝ }
+fn put_less(table: &mut [u8], pen: Pen, low: Node, high: Node, equal: Node) -> Written
+    requires { ⌜ Room (now table) pen 2 × (low .depth < mostGates) × (equal .depth < mostGates) ⌝ }
+    ensures wrote { λ r. ⌜ Wrote (now (table .entry)) pen (lessJoin (pen .next) (nodeIs low) (nodeIs high) (nodeIs equal)) (now (table .exit)) (r .pen) ⌝ }
+    ensures moves { λ r. ⌜ Moved pen 2 (r .pen) ⌝ }
+    ensures joins { λ r. ⌜ nodeIs (r .node) ≡ joinedLess (pen .next) (nodeIs low) (nodeIs high) (nodeIs equal) ⌝ }
 {
-    let both = writer::put_mul(table, pen, equal, low);
-    writer::put_add(table, both, high, pen.next)
+    let both = writer::multiply(table, pen, equal, low);
+    let gate = both.pen.next;
+    let depth = answer::deeper(high.depth, both.node.depth);
+    Written {
+        pen: writer::put_add(table, both.pen, high.gate, pen.next),
+        node: Node { gate, depth },
+    }
 }
 
-// A run of m digits from number first on that lacks digit 0.
-fn join_run(table: &mut [u8], pen: Pen, p: u16, k: u16, first: u16, m: u16, depth: u16) -> Joined
-    requires { ⌜ (3 ≤ p) × (p < 256) × (k ≤ mostGates) × (depth < mostGates) ⌝ }
-    requires { ⌜ (1 ≤ first) × (1 ≤ m) × (first + m ≤ 16) × Room (now table) pen (3 * (m - 1)) ⌝ }
-    ensures wrote { λ r. ⌜ Wrote (now (table .entry)) pen (joinRun (lessOf p k) (equalOf p k) (halves m first m) (pen .next) .gates) (now (table .exit)) (r .pen) ⌝ }
+// The join of two runs that lack digit 0, after the gates of both.
+fn put_join(table: &mut [u8], low: Joined, high: Joined) -> Joined
+    requires { ⌜ Room (now table) (high .pen) 3 × ShallowRun low × ShallowRun high ⌝ }
+    ensures wrote { λ r. ⌜ Wrote (now (table .entry)) (high .pen) (lessJoin (high .pen .next) (nodeIs (low .less)) (nodeIs (high .less)) (nodeIs (high .equal)) ++ (Mul (low .equal .gate) (high .equal .gate) ∷ [])) (now (table .exit)) (r .pen) ⌝ }
+    ensures moves { λ r. ⌜ Moved (high .pen) 3 (r .pen) ⌝ }
+    ensures less { λ r. ⌜ nodeIs (r .less) ≡ joinedLess (high .pen .next) (nodeIs (low .less)) (nodeIs (high .less)) (nodeIs (high .equal)) ⌝ }
+    ensures equal { λ r. ⌜ nodeIs (r .equal) ≡ times (suc (suc (high .pen .next))) (nodeIs (low .equal)) (nodeIs (high .equal)) ⌝ }
+{
+    let sum = put_less(table, high.pen, low.less, high.less, high.equal);
+    let both = writer::multiply(table, sum.pen, low.equal, high.equal);
+    let pen = both.pen;
+    let less = sum.node;
+    let equal = both.node;
+    Joined { pen, less, equal }
+}
+
+// A run of m digits from number first on that lacks digit 0, and so has E. Gates and depths of L and of E are lent by the digit's number.
+fn join_run(
+    table: &mut [u8],
+    pen: Pen,
+    first: u16,
+    m: u16,
+    less: &[u16],
+    less_depths: &[u16],
+    equal: &[u16],
+    equal_depths: &[u16],
+) -> Joined
+    requires { ⌜ (1 ≤ first) × Joinable (now less) (now «less_depths») (now equal) (now «equal_depths») first m ⌝ }
+    requires { ⌜ Room (now table) pen (3 * (m - 1)) ⌝ }
+    ensures wrote { λ r. ⌜ Wrote (now (table .entry)) pen (listedRun (now (less .entry)) (now («less_depths» .entry)) (now (equal .entry)) (now («equal_depths» .entry)) first m (pen .next) .gates) (now (table .exit)) (r .pen) ⌝ }
     ensures moves { λ r. ⌜ Moved pen (3 * (m - 1)) (r .pen) ⌝ }
-    ensures less { λ r. ⌜ r .less ≡ joinRun (lessOf p k) (equalOf p k) (halves m first m) (pen .next) .less ⌝ }
-    ensures equal { λ r. ⌜ r .equal ≡ joinRun (lessOf p k) (equalOf p k) (halves m first m) (pen .next) .equal ⌝ }
-    ensures deepens { λ r. ⌜ r .depth ≡ depth + clog m ⌝ }
+    ensures less { λ r. ⌜ nodeIs (r .less) ≡ listedRun (now (less .entry)) (now («less_depths» .entry)) (now (equal .entry)) (now («equal_depths» .entry)) first m (pen .next) .less ⌝ }
+    ensures equal { λ r. ⌜ nodeIs (r .equal) ≡ listedRun (now (less .entry)) (now («less_depths» .entry)) (now (equal .entry)) (now («equal_depths» .entry)) first m (pen .next) .equal ⌝ }
 {
     if m <= 1 {
-        let less = less_gate(p, k, first);
         return Joined {
             pen,
-            less,
-            equal: less + 1,
-            depth,
+            less: node_at(less, less_depths, first),
+            equal: node_at(equal, equal_depths, first),
         };
     }
     let h = m / 2;
-    let low = join_run(table, pen, p, k, first, h, depth);
-    let high = join_run(table, low.pen, p, k, first + h, m - h, depth);
-    let next = high.pen.next;
-    let summed = put_less(table, high.pen, low.less, high.less, high.equal);
-    let last = writer::put_mul(table, summed, low.equal, high.equal);
-    Joined {
-        pen: last,
-        less: next + 1,
-        equal: next + 2,
-        depth: answer::deeper(low.depth, high.depth) + 1,
-    }
+    let low = join_run(table, pen, first, h, less, less_depths, equal, equal_depths);
+    let high = join_run(
+        table,
+        low.pen,
+        first + h,
+        m - h,
+        less,
+        less_depths,
+        equal,
+        equal_depths,
+    );
+    put_join(table, low, high)
 }
 
-// The run of all n digits.
-pub fn join_digits(table: &mut [u8], pen: Pen, p: u16, k: u16, n: u16, depth: u16) -> Written
-    requires { ⌜ (3 ≤ p) × (p < 256) × (k ≤ mostGates) × (depth < mostGates) ⌝ }
-    requires { ⌜ (1 ≤ n) × (n ≤ 16) × Room (now table) pen (length (joinLowest (lessOf p k) (equalOf p k) (halves n 0 n) (pen .next) .gates)) ⌝ }
-    ensures wrote { λ r. ⌜ Wrote (now (table .entry)) pen (joinLowest (lessOf p k) (equalOf p k) (halves n 0 n) (pen .next) .gates) (now (table .exit)) (r .pen) ⌝ }
-    ensures moves { λ r. ⌜ Moved pen (length (joinLowest (lessOf p k) (equalOf p k) (halves n 0 n) (pen .next) .gates)) (r .pen) ⌝ }
-    ensures less { λ r. ⌜ r .node .gate ≡ joinLowest (lessOf p k) (equalOf p k) (halves n 0 n) (pen .next) .less ⌝ }
-    ensures deepens { λ r. ⌜ r .node .depth ≡ depth + clog n ⌝ }
+// The run of all n digits, which has no E since the lowest digit has none. The node is its L.
+pub fn join_lowest(
+    table: &mut [u8],
+    pen: Pen,
+    n: u16,
+    less: &[u16],
+    less_depths: &[u16],
+    equal: &[u16],
+    equal_depths: &[u16],
+) -> Written
+    requires { ⌜ Joinable (now less) (now «less_depths») (now equal) (now «equal_depths») 0 n ⌝ }
+    requires { ⌜ Room (now table) pen (length (listedWhole (now less) (now «less_depths») (now equal) (now «equal_depths») n (pen .next) .gates)) ⌝ }
+    ensures wrote { λ r. ⌜ Wrote (now (table .entry)) pen (listedWhole (now (less .entry)) (now («less_depths» .entry)) (now (equal .entry)) (now («equal_depths» .entry)) n (pen .next) .gates) (now (table .exit)) (r .pen) ⌝ }
+    ensures moves { λ r. ⌜ Moved pen (length (listedWhole (now (less .entry)) (now («less_depths» .entry)) (now (equal .entry)) (now («equal_depths» .entry)) n (pen .next) .gates)) (r .pen) ⌝ }
+    ensures output { λ r. ⌜ nodeIs (r .node) ≡ listedWhole (now (less .entry)) (now («less_depths» .entry)) (now (equal .entry)) (now («equal_depths» .entry)) n (pen .next) .output ⌝ }
 {
     if n <= 1 {
-        let gate = less_gate(p, k, 0);
         return Written {
             pen,
-            node: Node { gate, depth },
+            node: node_at(less, less_depths, 0),
         };
     }
     let h = n / 2;
-    let low = join_digits(table, pen, p, k, h, depth);
-    let high = join_run(table, low.pen, p, k, h, n - h, depth);
-    let next = high.pen.next;
-    let last = put_less(table, high.pen, low.node.gate, high.less, high.equal);
-    Written {
-        pen: last,
-        node: Node {
-            gate: next + 1,
-            depth: answer::deeper(low.node.depth, high.depth) + 1,
-        },
-    }
+    let low = join_lowest(table, pen, h, less, less_depths, equal, equal_depths);
+    let high = join_run(
+        table,
+        low.pen,
+        h,
+        n - h,
+        less,
+        less_depths,
+        equal,
+        equal_depths,
+    );
+    put_less(table, high.pen, low.node, high.less, high.equal)
 }

@@ -12,7 +12,7 @@ use Rattle.circuit.specs.ProductTree.{least, multiply}
 use Rattle.comparison.specs.Digits.{digitsFrom}
 use Rattle.comparison.specs.Joining.{halves, joinLowest}
 use Rattle.comparison.specs.OrderDigit.{ascending, powerGate, laterTerms}
-use Rattle.comparison.specs.Writing.{conditionSegment}
+use Rattle.comparison.specs.Writing.{orderSegment, conditionBy}
 use Rattle.query.specs.Reading.{readConditions}
 use Rattle.query.specs.Whole.{addAll}
 use Rattle.listing.specs.Bench.{FirstListing}
@@ -20,5 +20,5 @@ use Rattle.listing.specs.Lines.{gateLines}
 use Rattle.text.specs.Text.{spell, decimal}
 
 pub first-listing : FirstListing
-unfolding spell decimal gateLines orderConstants listed member primes sum readConditions total addAll conditionSegment digitsFrom ascending powerGate laterTerms halves joinLowest multiply least flog clog counted count interpret residue
+unfolding spell decimal gateLines orderConstants listed member primes sum readConditions total addAll conditionBy orderSegment digitsFrom ascending powerGate laterTerms halves joinLowest multiply least flog clog counted count interpret residue
 first-listing = refl

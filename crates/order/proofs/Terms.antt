@@ -16,7 +16,7 @@ use Rattle.circuit.specs.Gate.{Scale, Add}
 use Rattle.comparison.specs.OrderDigit.{half, powerGate, laterTerms, terms}
 use Rattle.comparison.proofs.OrderDigit.{exponents-length}
 use Rattle.comparison.proofs.Powers.{gate-low, gate-high}
-use Rattle.order.specs.Constants.{Constants}
+use Rattle.order.specs.Prepared.{Constants}
 
 -- ---- the constants
 

@@ -1,51 +1,51 @@
--- An order condition but for its last FLIP: its gates are the digits' and the joining's, whichever side is subtracted.
+-- An order condition but for its last FLIP: its digits, and then their joining over the lists that hold their tests.
+-- Joining goes by the nodes of L and of E that it is given (`lowest-same`), and those are the lists'.
 -- Assumes nothing.
 use mathlib.Core.Path.{_≡_, sym, ap, _∙_}
-use mathlib.Core.Bool.{Bool, true, false}
 use mathlib.Core.List.{List, _++_}
-use Prim.Native.Nat.{ℕ, _+_, _-_}
+use Prim.Native.Nat.{ℕ, _+_, _≤_}
+use native.Mathlib.Omega.{arith}
 use lib.ListN.{length, length-append}
-use Rattle.field.specs.Logarithm.{clog}
-use Rattle.circuit.specs.Gate.{Gate}
-use Rattle.comparison.specs.Digits.{digitsFrom}
-use Rattle.comparison.specs.Joining.{LowestRun, halves, joinLowest}
-use Rattle.joining.specs.Tests.{lessOf, equalOf}
-use Rattle.writer.specs.declared.Pen.{Pen}
-use Rattle.writer.specs.declared.Slots.{Slots}
-use Rattle.writer.specs.Pen.{Wrote}
-use Rattle.writer.proofs.Writing.{same-gates, then}
-use Rattle.order.specs.Slots.{orderCondition, orderSegment}
+use Rattle.circuit.specs.Segment.{Node, Segment}
+use Rattle.comparison.specs.Condition.{Condition}
+use Rattle.comparison.specs.Digits.{orderDigits}
+use Rattle.comparison.specs.Joining.{halves, wholeRun}
+use Rattle.comparison.specs.Tests.{Tests}
+use Rattle.comparison.specs.Writing.{lessOf, equalOf, orderSegment}
+use Rattle.comparison.proofs.Halves.{halves-each, halves-upper}
+use Rattle.comparison.proofs.Joining.{lowest-same}
+use Rattle.joining.specs.Listed.{mostJoined, mostTestDepth, nodeAt, listedWhole, Joinable}
+use Rattle.order.specs.TestsListed.{Long, TestsListed}
 
-module _ (p : ℕ) (backward : Bool) (slots : Slots) (k : ℕ) where
-  abbrev pub digits : List Gate
-  digits = digitsFrom p (orderCondition backward slots) k (slots .count) 0
-
-  -- the joining, from gate number next on
-  abbrev pub joined : ℕ → LowestRun
-  joined next = joinLowest (lessOf p k) (equalOf p k) (halves (slots .count) 0 (slots .count)) next
-
-gates-are : (p : ℕ) (backward : Bool) (slots : Slots) (k next : ℕ) → next ≡ k + length (digits p backward slots k)
-    → orderSegment p backward slots k .gates ≡ digits p backward slots k ++ joined p backward slots k next .gates
+-- the digits are a part of it
+pub digits-within : (t : Tests) (c : Condition) (k : ℕ) → length (orderDigits t c k (c .digits) 0) ≤ length (orderSegment t c k .gates)
 unfolding orderSegment
-gates-are p true slots k next e = rw e
-gates-are p false slots k next e = rw e
+digits-within t c k = simp length-append (omega arith)
 
-pub length-is : (p : ℕ) (backward : Bool) (slots : Slots) (k next : ℕ) → next ≡ k + length (digits p backward slots k)
-    → length (orderSegment p backward slots k .gates) ≡ length (digits p backward slots k) + length (joined p backward slots k next .gates)
-length-is p backward slots k next e = ap length (gates-are p backward slots k next e) ∙ length-append (digits p backward slots k) _
+module _ (t : Tests) (c : Condition) (k : ℕ) (some : 1 ≤ c .digits) {less lessDepths equal equalDepths : List ℕ}
+    (listed : TestsListed t k (c .digits) less lessDepths equal equalDepths) where
+  -- the joining of what the lists hold is that of the digits
+  listed-same : (next : ℕ) → wholeRun (lessOf t k) (equalOf t k) (c .digits) next ≡ listedWhole less lessDepths equal equalDepths (c .digits) next
+  listed-same next =
+      sym (lowest-same (nodeAt less lessDepths) (nodeAt equal equalDepths) (lessOf t k) (equalOf t k) (halves (c .digits) 0 (c .digits)) next
+      (halves-each _ (c .digits) some (listed .lessAt)) (halves-upper _ (c .digits) some (listed .equalAt)))
 
--- the digits, then their joining
-pub segment-wrote : (p : ℕ) (backward : Bool) (slots : Slots) {table table₁ table₂ : List ℕ} {pen pen₁ pen₂ : Pen}
-    → Wrote table pen (digits p backward slots (pen .next)) table₁ pen₁
-    → Wrote table₁ pen₁ (joined p backward slots (pen .next) (pen₁ .next) .gates) table₂ pen₂
-    → Wrote table pen (orderSegment p backward slots (pen .next) .gates) table₂ pen₂
-segment-wrote p backward slots {pen = pen} {pen₁ = pen₁} a b =
-    same-gates (sym (gates-are p backward slots (pen .next) (pen₁ .next) (a .number))) (then a b)
+  pub segment-is : (next : ℕ) → next ≡ k + length (orderDigits t c k (c .digits) 0)
+      → let joined = listedWhole less lessDepths equal equalDepths (c .digits) next in
+      (orderSegment t c k .gates ≡ orderDigits t c k (c .digits) 0 ++ joined .gates) × (orderSegment t c k .output ≡ joined .output)
+  unfolding orderSegment
+  segment-is next e =
+      let same = ap (wholeRun (lessOf t k) (equalOf t k) (c .digits)) (sym e) ∙ listed-same next in
+      (ap (λ (s : Segment). orderDigits t c k (c .digits) 0 ++ s .gates) same, ap (λ (s : Segment). s .output) same)
 
--- the output, from the joining's gate and depth
-pub output-is : (p : ℕ) (backward : Bool) (slots : Slots) (k next g d deep : ℕ) → next ≡ k + length (digits p backward slots k)
-    → g ≡ joined p backward slots k next .less → d ≡ deep + clog (slots .count) → deep ≡ clog (p - 1)
-    → record { gate = g; depth = d } ≡ orderSegment p backward slots k .output
-unfolding orderSegment
-output-is p true slots k next g d deep e hg hd h = rw (hg, hd, h, e)
-output-is p false slots k next g d deep e hg hd h = rw (hg, hd, h, e)
+  -- tests that are not too deep can be joined
+  pub listed-joinable : c .digits ≤ mostJoined → t .less .depth ≤ mostTestDepth → t .equal .depth ≤ mostTestDepth
+      → Long (c .digits) less lessDepths equal equalDepths → Joinable less lessDepths equal equalDepths 0 (c .digits)
+  listed-joinable few l e long = record {
+    some = some;
+    few = omega arith;
+    longLess = omega arith;
+    longEqual = omega arith;
+    shallowLess = λ j to. omega (arith, ap (λ (n : Node). n .depth) (listed .lessAt j (omega arith)));
+    shallowEqual = λ j low to. omega (arith, ap (λ (n : Node). n .depth) (listed .equalAt j low (omega arith)));
+  }

@@ -1,3 +1,5 @@
--- Only serves contracts of functions inside: the constants, as they are lent, and an order condition but for its last FLIP.
-pub mod Constants
+-- Only serves contracts of functions inside: what order digits go by and ask, an order condition but for its last FLIP,
+-- and the lists of its digits' tests.
+pub mod Prepared
 pub mod Slots
+pub mod TestsListed

@@ -79,8 +79,8 @@ deep-step p n i depths w e l d = record { known = λ j wj lj. go j wj lj (decLe 
         getD-set-other depths n (powerGate p 0 j) (clog i) 0 (λ same. absurd (omega arith)) ∙ d .known j wj less
 
 -- the entry of a power up to (p-1)/2
-deep-low : (p n j : ℕ) (depths : List ℕ) → p < 256 → 1 ≤ j → j ≤ half p → j ≤ n → Deep p depths n → getD depths (j - 1) 0 ≡ clog j
-deep-low p n j depths small one low l d =
+deep-low : (p n j : ℕ) (depths : List ℕ) → 1 ≤ j → j ≤ half p → j ≤ n → Deep p depths n → getD depths (j - 1) 0 ≡ clog j
+deep-low p n j depths one low l d =
     let e : powerGate p 0 j ≡ j - 1 = gate-low p 0 j low ∙ omega arith in
     rw (← e) (d .known j (one, omega arith, inl low) (omega arith))
 
@@ -93,12 +93,12 @@ halves-before p i odd two top = go (decLe i (half p))
     go (no a) = omega (arith, gate-high p 0 i (lt-of-not-le a))
 
 -- so their depths are known
-pub deep-halves : (p i : ℕ) (depths : List ℕ) → p % 2 ≡ 1 → p < 256 → 2 ≤ i → i ≤ p - 1 → Deep p depths (powerGate p 0 i)
+pub deep-halves : (p i : ℕ) (depths : List ℕ) → p % 2 ≡ 1 → 2 ≤ i → i ≤ p - 1 → Deep p depths (powerGate p 0 i)
     → (getD depths (i / 2 - 1) 0 ≡ clog (i / 2)) × (getD depths ((i + 1) / 2 - 1) 0 ≡ clog ((i + 1) / 2))
-deep-halves p i depths odd small two top d =
+deep-halves p i depths odd two top d =
     let before = halves-before p i odd two top in (
-      deep-low p _ (i / 2) depths small (omega arith) (omega arith) (omega arith) d,
-      deep-low p _ ((i + 1) / 2) depths small (omega arith) (before .0) (before .1) d,
+      deep-low p _ (i / 2) depths (omega arith) (omega arith) (omega arith) d,
+      deep-low p _ ((i + 1) / 2) depths (omega arith) (before .0) (before .1) d,
     )
 
 -- ---- what is left to write

@@ -7,6 +7,10 @@ use lib.ListN.{getD}
 use Rattle.field.specs.Logarithm.{clog}
 use Rattle.comparison.specs.OrderDigit.{half, powerGate}
 
+-- so many entries hold the depths for any odd p that is a byte
+abbrev pub mostPowers : ℕ
+mostPowers = 192
+
 -- the exponents of the powers: those up to (p-1)/2, odd ones, and p-1
 abbrev pub IsWritten : ℕ → ℕ → Type 0
 IsWritten p i = (1 ≤ i) × (i ≤ p - 1) × ((i ≤ half p) ⊎ ((i % 2 ≡ 1) ⊎ (i ≡ p - 1)))

@@ -5,16 +5,19 @@ ghost use mathlib.Core.Path.{_≡_};
 ghost use mathlib.Core.List.{[], _∷_, map};
 ghost use Prim.Native.Nat.{_+_, _-_, _/_, _%_, _≤_, _<_};
 ghost use lib.ListN.{length, getD};
+ghost use Rattle.field.specs.Byte.{byteValues};
+ghost use Rattle.circuit.specs.Table.{mostGates};
 ghost use Rattle.comparison.specs.OrderDigit.{half as halfOf, lowExponents, oddExponents, powerOf, powers, powerCount, powerGate};
+ghost use Rattle.writer.specs.Modulus.{Modulus};
 ghost use Rattle.writer.specs.Pen.{Wrote, Room, Moved};
 ghost use Rattle.powers.specs.Powers.{IsWritten, Deep};
 
-// Room for the depths of z and its powers, for any odd p below 256.
+// Room for the depths of z and its powers, for any odd p that is a byte.
 pub const MOST_POWERS: usize = 192;
 
 // The power z^i, from those of its halves.
 fn put_power(table: &mut [u8], pen: Pen, z: u16, i: u16) -> Pen
-    requires { ⌜ Room (now table) pen 1 × (2 ≤ i) × (i < 256) × (z + (i + 1) / 2 ≤ pen .next) ⌝ }
+    requires { ⌜ Room (now table) pen 1 × (2 ≤ i) × (i < byteValues) × (z + (i + 1) / 2 ≤ pen .next) ⌝ }
     ensures wrote { λ r. ⌜ Wrote (now (table .entry)) pen (powerOf z i ∷ []) (now (table .exit)) r ⌝ }
     ensures moves { λ r. ⌜ Moved pen 1 r ⌝ }
 {
@@ -25,7 +28,7 @@ fn put_power(table: &mut [u8], pen: Pen, z: u16, i: u16) -> Pen
 
 // The powers z^i for i = 2 to (p-1)/2.
 fn put_low_powers(table: &mut [u8], pen: Pen, z: u16, p: u16) -> Pen
-    requires { ⌜ Room (now table) pen (halfOf p - 1) × (3 ≤ p) × (p < 256) × (pen .next ≡ z + 1) ⌝ }
+    requires { ⌜ Room (now table) pen (halfOf p - 1) × Modulus p × (pen .next ≡ z + 1) ⌝ }
     ensures wrote { λ r. ⌜ Wrote (now (table .entry)) pen (map (powerOf z) (lowExponents p)) (now (table .exit)) r ⌝ }
     ensures moves { λ r. ⌜ Moved pen (halfOf p - 1) r ⌝ }
 {
@@ -41,7 +44,7 @@ fn put_low_powers(table: &mut [u8], pen: Pen, z: u16, p: u16) -> Pen
 
 // The powers z^i for the odd i above (p-1)/2 to p-2.
 fn put_odd_powers(table: &mut [u8], pen: Pen, z: u16, p: u16) -> Pen
-    requires { ⌜ Room (now table) pen (halfOf p / 2) × (3 ≤ p) × (p % 2 ≡ 1) × (p < 256) × (pen .next ≡ z + halfOf p) ⌝ }
+    requires { ⌜ Room (now table) pen (halfOf p / 2) × Modulus p × (pen .next ≡ z + halfOf p) ⌝ }
     ensures wrote { λ r. ⌜ Wrote (now (table .entry)) pen (map (powerOf z) (oddExponents p)) (now (table .exit)) r ⌝ }
     ensures moves { λ r. ⌜ Moved pen (halfOf p / 2) r ⌝ }
 {
@@ -57,7 +60,7 @@ fn put_odd_powers(table: &mut [u8], pen: Pen, z: u16, p: u16) -> Pen
 
 // All powers of z.
 pub fn put_powers(table: &mut [u8], pen: Pen, z: u16, p: u16) -> Pen
-    requires { ⌜ Room (now table) pen (powerCount p) × (3 ≤ p) × (p % 2 ≡ 1) × (p < 256) × (pen .next ≡ z + 1) ⌝ }
+    requires { ⌜ Room (now table) pen (powerCount p) × Modulus p × (pen .next ≡ z + 1) ⌝ }
     ensures wrote { λ r. ⌜ Wrote (now (table .entry)) pen (powers p z) (now (table .exit)) r ⌝ }
     ensures moves { λ r. ⌜ Moved pen (powerCount p) r ⌝ }
 {
@@ -67,8 +70,8 @@ pub fn put_powers(table: &mut [u8], pen: Pen, z: u16, p: u16) -> Pen
 }
 
 // How far after z the power z^i stands.
-pub fn power_place(p: u16, i: u16) -> u16
-    requires { ⌜ (1 ≤ i) × (i ≤ p - 1) × (p < 256) ⌝ }
+fn power_place(p: u16, i: u16) -> u16
+    requires { ⌜ (1 ≤ i) × (i ≤ p - 1) × (p < byteValues) ⌝ }
     ensures { λ r. ⌜ r ≡ powerGate p 0 i ⌝ }
 {
     let half = (p - 1) / 2;
@@ -80,7 +83,7 @@ pub fn power_place(p: u16, i: u16) -> u16
 
 // The depth of z^i at its place, after those of the powers before it: one more than the deeper of its halves'.
 fn put_power_depth(p: u16, i: u16, depths: &mut [u16])
-    requires { ⌜ (p % 2 ≡ 1) × (p < 256) × (2 ≤ i) × IsWritten p i × (powerCount p < length (now depths)) ⌝ }
+    requires { ⌜ Modulus p × (2 ≤ i) × IsWritten p i × (powerCount p < length (now depths)) ⌝ }
     requires { ⌜ Deep p (now depths) (powerGate p 0 i) ⌝ }
     ensures { λ _. ⌜ Deep p (now (depths .exit)) (powerGate p 0 i + 1) ⌝ }
 {
@@ -92,7 +95,7 @@ fn put_power_depth(p: u16, i: u16, depths: &mut [u16])
 
 // The depths of the powers z^i for i = 2 to (p-1)/2.
 fn put_low_depths(p: u16, depths: &mut [u16])
-    requires { ⌜ (3 ≤ p) × (p % 2 ≡ 1) × (p < 256) × (powerCount p < length (now depths)) ⌝ }
+    requires { ⌜ Modulus p × (powerCount p < length (now depths)) ⌝ }
     requires { ⌜ Deep p (now depths) 1 ⌝ }
     ensures { λ _. ⌜ Deep p (now (depths .exit)) (halfOf p) ⌝ }
 {
@@ -106,7 +109,7 @@ fn put_low_depths(p: u16, depths: &mut [u16])
 
 // The depths of the powers z^i for the odd i above (p-1)/2 to p-2.
 fn put_odd_depths(p: u16, depths: &mut [u16])
-    requires { ⌜ (3 ≤ p) × (p % 2 ≡ 1) × (p < 256) × (powerCount p < length (now depths)) ⌝ }
+    requires { ⌜ Modulus p × (powerCount p < length (now depths)) ⌝ }
     requires { ⌜ Deep p (now depths) (halfOf p) ⌝ }
     ensures { λ _. ⌜ Deep p (now (depths .exit)) (powerCount p) ⌝ }
 {
@@ -120,7 +123,7 @@ fn put_odd_depths(p: u16, depths: &mut [u16])
 
 // The depths of z and its powers, the same for every digit: entry k is that of gate z + k.
 pub fn put_power_depths(p: u16, depths: &mut [u16])
-    requires { ⌜ (3 ≤ p) × (p % 2 ≡ 1) × (p < 256) × (powerCount p < length (now depths)) ⌝ }
+    requires { ⌜ Modulus p × (powerCount p < length (now depths)) ⌝ }
     ensures { λ _. ⌜ Deep p (now (depths .exit)) (powerCount p + 1) ⌝ }
 {
     depths[0] = 0;
@@ -131,7 +134,7 @@ pub fn put_power_depths(p: u16, depths: &mut [u16])
 
 // The power z^i with its depth.
 pub fn power_at(z: u16, p: u16, i: u16, depths: &[u16]) -> Node
-    requires { ⌜ (1 ≤ i) × (i ≤ p - 1) × (p < 256) × (z < 8192) × (powerGate p 0 i < length (now depths)) ⌝ }
+    requires { ⌜ (1 ≤ i) × (i ≤ p - 1) × (p < byteValues) × (z ≤ mostGates) × (powerGate p 0 i < length (now depths)) ⌝ }
     ensures { λ r. ⌜ (r .gate ≡ z + powerGate p 0 i) × (r .depth ≡ getD (now (depths .entry)) (powerGate p 0 i) 0) ⌝ }
 {
     let place = power_place(p, i);

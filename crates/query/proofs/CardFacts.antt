@@ -16,27 +16,23 @@ use Rattle.field.proofs.Primes.{listed-is-odd-prime}
 use Rattle.field.proofs.Tests.{in-range}
 use Rattle.digits.specs.Number.{mostDigits}
 use Rattle.circuit.specs.Every.{Every}
-use Rattle.circuit.specs.Table.{wrongWeight}
-use Rattle.comparison.specs.Condition.{Condition}
+use Rattle.circuit.specs.Table.{leastWeight, mostWeight, wrongWeight}
+use Rattle.comparison.specs.Condition.{Condition, HasSlots}
 use Rattle.query.specs.Card.{Card, mostConditions, slotsOf, inSlots}
 use Rattle.query.specs.Reading.{readCard}
 use Rattle.query.proofs.Reading.{Keeps, in-slots, reads}
 
--- a condition has 1 to 16 digits, and its slots are among the first N on both sides
-abbrev pub InCard : ℕ → Condition → Type 0
-InCard N c = (1 ≤ c .digits) × (c .digits ≤ mostDigits) × (c .left + c .digits ≤ N) × (c .right + c .digits ≤ N)
-
 pub record Accepted (card : Card) : Type 0 where
   pub prime : OddPrime (card .prime)
   pub listed : listed (card .prime) ≡ true
-  pub weight : (50 ≤ card .weight) × (card .weight ≤ 100)
+  pub weight : (leastWeight ≤ card .weight) × (card .weight ≤ mostWeight)
   pub weightTest : wrongWeight (card .weight) ≡ false
   pub count : (1 ≤ length (card .conditions)) × (length (card .conditions) ≤ mostConditions)
   pub slots : (1 ≤ slotsOf (card .conditions)) × (slotsOf (card .conditions) ≤ mostDigits)
-  pub each : Every (λ (c : Condition). InCard (slotsOf (card .conditions)) c) (card .conditions)
+  pub each : Every (λ (c : Condition). HasSlots (slotsOf (card .conditions)) (slotsOf (card .conditions)) c) (card .conditions)
 
 -- conditions that take the slots from slot on, up to N at most
-in-card : (N slot : ℕ) (cs : List Condition) → inSlots slot cs ≡ true → slot + slotsOf cs ≤ N → Every (λ (c : Condition). InCard N c) cs
+in-card : (N slot : ℕ) (cs : List Condition) → inSlots slot cs ≡ true → slot + slotsOf cs ≤ N → Every (λ (c : Condition). HasSlots N N c) cs
 unfolding total
 in-card N slot [] t h = tt
 in-card N slot (c ∷ cs) t h =
@@ -56,7 +52,7 @@ accepted-keeps card k =
     record {
       prime = listed-is-odd-prime (card .prime) .0 (k .prime);
       listed = k .prime;
-      weight = in-range (card .weight) 50 100 (k .weight);
+      weight = in-range (card .weight) leastWeight mostWeight (k .weight);
       weightTest = k .weight;
       count = count;
       slots = (some-slot 0 (card .conditions) (k .placed) (count .0), ltb-false mostDigits (slotsOf (card .conditions)) (k .slots));

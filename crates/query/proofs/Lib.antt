@@ -5,4 +5,5 @@ pub mod Reading
 pub mod CardFacts
 pub mod OverConditions
 pub mod Whole
+pub mod AnyTests
 pub mod Promises

@@ -8,6 +8,7 @@ use native.Mathlib.Omega.{arith}
 use native.Mathlib.Nat.{le-refl, mul-le-mul-left}
 use lib.ListN.{length}
 use lib.Pow.{pow-pos}
+use Rattle.answer.specs.Report.{costOf}
 use Rattle.field.specs.Bit.{bit}
 use Rattle.field.specs.Logarithm.{flog}
 use Rattle.field.specs.Sum.{total}
@@ -33,7 +34,7 @@ over-times a f (c ∷ cs) = omega (arith, over-times a f cs)
 
 -- products and squares summed apart
 pub over-cost : (s : ℕ) (f g : Condition → ℕ) (cs : List Condition)
-    → overConditions (λ (c : Condition). 100 * f c + s * g c) cs ≡ 100 * overConditions f cs + s * overConditions g cs
+    → overConditions (λ (c : Condition). costOf s (f c) (g c)) cs ≡ costOf s (overConditions f cs) (overConditions g cs)
 unfolding total
 over-cost s f g [] = omega arith
 over-cost s f g (c ∷ cs) = omega (arith, over-cost s f g cs)

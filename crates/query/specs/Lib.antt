@@ -8,4 +8,5 @@ pub mod Holds
 pub mod CardPromises
 pub mod BuildOrder
 pub mod Promises
+pub mod AnyTests
 pub mod Bench

@@ -11,17 +11,22 @@ use Rattle.digits.specs.Number.{mostDigits, wrongCount}
 use Rattle.circuit.specs.Bytes.{byte, wrongMark}
 use Rattle.circuit.specs.Table.{wrongWeight}
 use Rattle.comparison.specs.Condition.{Condition}
-use Rattle.comparison.specs.Relation.{relations}
+use Rattle.comparison.specs.Relation.{Relation, relations}
 use Rattle.query.specs.Card.{Card, cardMark, conditionMark, wrongConditionCount, slotsOf}
 
--- "then by condition 2 mark, 8 relation, 9 n": the record that the bytes begin with.
 -- "Each condition takes the next n slots on both sides.": those from slot on
+abbrev pub conditionAt : ℕ → Relation → ℕ → Condition
+conditionAt slot r n = record { relation = r; digits = n; left = slot; right = slot }
+
+-- "9 n", or the condition
+abbrev pub countedAs : ℕ → Relation → ℕ → Answer Condition
+countedAs slot r n = refuse (wrongCount n) (refused 9) (accepted (conditionAt slot r n))
+
+-- "then by condition 2 mark, 8 relation, 9 n": the record that the bytes begin with
 abbrev pub readCondition : ℕ → List ℕ → Answer Condition
 readCondition slot bytes =
     refuse (wrongMark conditionMark bytes) (refused 2)
-    (onAnswer (numbered 8 (byte bytes 2) relations) refused (λ relation.
-    refuse (wrongCount (byte bytes 3)) (refused 9)
-    (accepted (record { relation = relation; digits = byte bytes 3; left = slot; right = slot }))))
+    (onAnswer (numbered 8 (byte bytes 2) relations) refused (λ relation. countedAs slot relation (byte bytes 3)))
 
 -- the conditions of the next records
 unfoldable pub readConditions : ℕ → ℕ → List ℕ → Answer (List Condition)
@@ -30,11 +35,12 @@ readConditions slot (suc count) bytes =
     onAnswer (readCondition slot bytes) refused (λ c.
     onAnswer (readConditions (slot + c .digits) count (drop 4 bytes)) refused (λ cs. accepted (c ∷ cs)))
 
--- "then 10 N over 16"
+-- "then 10 N over 16", or what was read
+abbrev pub withinSlots : {A : Type 0} → ℕ → A → Answer A
+withinSlots slots read = refuse (ltb mostDigits slots) (refused 10) (accepted read)
+
 abbrev pub readSlots : ℕ → ℕ → List Condition → Answer Card
-readSlots p s conditions =
-    refuse (ltb mostDigits (slotsOf conditions)) (refused 10)
-    (accepted (record { prime = p; weight = s; conditions = conditions }))
+readSlots p s conditions = withinSlots (slotsOf conditions) (record { prime = p; weight = s; conditions = conditions })
 
 -- "1 card under 6 bytes; 2 head mark; 3 p not listed; 4 s; 5 spare not 0; 6 c; 7 length not 6+4c; then by condition"
 abbrev pub readCard : List ℕ → Answer Card

@@ -8,7 +8,8 @@ use Rattle.circuit.specs.ProductTree.{productTree}
 use Rattle.circuit.specs.Segment.{Node, Segment}
 use Rattle.circuit.specs.Table.{Table}
 use Rattle.comparison.specs.Condition.{Condition}
-use Rattle.comparison.specs.Writing.{conditionSegment}
+use Rattle.comparison.specs.Tests.{Tests, baseTests}
+use Rattle.comparison.specs.Writing.{conditionBy}
 use Rattle.query.specs.Card.{Card, slotsOf}
 
 -- the gates written so far, and the output of each condition
@@ -19,15 +20,19 @@ pub record Draft : Type 0 where
 abbrev pub begin : Draft
 begin = record { gates = []; outputs = [] }
 
--- one condition more, from the next free gate number on
-abbrev pub add : ℕ → Draft → Condition → Draft
-add p draft c =
-    let written = conditionSegment p c (length (draft .gates)) in
+-- one condition more, from the next free gate number on, whose order digits have the tests t
+abbrev pub add : Tests → ℕ → Draft → Condition → Draft
+add t p draft c =
+    let written = conditionBy t p c (length (draft .gates)) in
     record { gates = draft .gates ++ written .gates; outputs = draft .outputs ++ (written .output ∷ []) }
 
-unfoldable pub addAll : ℕ → Draft → List Condition → Draft
-addAll p draft [] = draft
-addAll p draft (c ∷ cs) = addAll p (add p draft c) cs
+unfoldable pub addAll : Tests → ℕ → Draft → List Condition → Draft
+addAll t p draft [] = draft
+addAll t p draft (c ∷ cs) = addAll t p (add t p draft c) cs
+
+-- conditions added to a new draft
+abbrev pub draftOf : Tests → ℕ → List Condition → Draft
+draftOf t p conditions = addAll t p begin conditions
 
 -- the product tree over the outputs, from the next free gate number on
 abbrev pub treeOf : Draft → Segment
@@ -37,12 +42,20 @@ abbrev pub finish : Draft → List Gate
 finish draft = draft .gates ++ treeOf draft .gates
 
 -- a card with all its conditions added
+abbrev pub filledBy : Tests → Card → Draft
+filledBy t card = draftOf t (card .prime) (card .conditions)
+
+-- its table, whose order digits have the tests t
+abbrev pub tableBy : Tests → Card → Table
+tableBy t card = record {
+  head = record { prime = card .prime; weight = card .weight; slots = slotsOf (card .conditions) };
+  gates = finish (filledBy t card);
+}
+
+-- by document 01's tests
 abbrev pub filled : Card → Draft
-filled card = addAll (card .prime) begin (card .conditions)
+filled card = filledBy (baseTests (card .prime)) card
 
 -- "Its table is the 8(G+1) bytes that Build writes, the head and the gates of the steps above and no others."
 abbrev pub tableOf : Card → Table
-tableOf card = record {
-  head = record { prime = card .prime; weight = card .weight; slots = slotsOf (card .conditions) };
-  gates = finish (filled card);
-}
+tableOf card = tableBy (baseTests (card .prime)) card

@@ -17,6 +17,11 @@ pub const GATE_MARK: [u8; 2] = [0x47, 0x54];
 // The bytes of a record.
 pub const RECORD: usize = 8;
 
+// The least and the most weight of a square.
+pub const LEAST_WEIGHT: usize = 50;
+
+pub const MOST_WEIGHT: usize = 100;
+
 // The most gates of a table.
 pub const MOST_GATES: usize = 8191;
 

@@ -17,15 +17,15 @@ use Rattle.comparison.specs.Digits.{digitsFrom}
 use Rattle.comparison.specs.EqualityDigit.{chain}
 use Rattle.comparison.specs.Joining.{halves, joinLowest}
 use Rattle.comparison.specs.OrderDigit.{ascending, powerGate, laterTerms}
-use Rattle.comparison.specs.Writing.{equalityFactors, conditionSegment}
+use Rattle.comparison.specs.Writing.{equalityFactors, orderSegment, equalitySegment, conditionBy}
 use Rattle.query.specs.Reading.{readConditions}
 use Rattle.query.specs.Whole.{addAll}
 use Rattle.starred.specs.Starred.{starred, StarredCases, FullRangeRun}
 
 pub starred-cases : StarredCases
-unfolding starred orderConstants listed member primes number sum allBelow digitsOf readConditions total addAll conditionSegment digitsFrom ascending powerGate laterTerms chain ones halves joinLowest equalityFactors multiply least flog clog counted count interpret gatesBytes readGates residue
+unfolding starred orderConstants listed member primes number sum allBelow digitsOf readConditions total addAll conditionBy orderSegment equalitySegment digitsFrom ascending powerGate laterTerms chain ones halves joinLowest equalityFactors multiply least flog clog counted count interpret gatesBytes readGates residue
 starred-cases = refl
 
 pub full-range-run : FullRangeRun
-unfolding orderConstants listed member primes number sum allBelow digitsOf readConditions total addAll conditionSegment digitsFrom ascending powerGate laterTerms chain ones halves joinLowest equalityFactors multiply least flog clog counted count interpret gatesBytes readGates residue
+unfolding orderConstants listed member primes number sum allBelow digitsOf readConditions total addAll conditionBy orderSegment equalitySegment digitsFrom ascending powerGate laterTerms chain ones halves joinLowest equalityFactors multiply least flog clog counted count interpret gatesBytes readGates residue
 full-range-run = refl

@@ -8,8 +8,8 @@ use native.Mathlib.Omega.{arith}
 use native.Mathlib.Numerals.{add-one}
 use lib.ListN.{length}
 use Rattle.circuit.specs.Gate.{Mul}
-use Rattle.circuit.specs.ProductTree.{least, choose, times, multiply, productTree}
-use Rattle.circuit.specs.Segment.{Node, Segment}
+use Rattle.circuit.specs.ProductTree.{least, choose, multiply, productTree}
+use Rattle.circuit.specs.Segment.{Node, Segment, times}
 use Rattle.circuit.specs.Table.{mostGates}
 use Rattle.circuit.proofs.Choosing.{firstOf, secondOf, restOf, next, pair-is, next-length}
 use Rattle.circuit.proofs.Every.{every-map, every-append}

@@ -9,7 +9,7 @@ ghost use lib.ListN.{length};
 ghost use lib.Seq.{sets};
 ghost use Rattle.circuit.specs.Count.{count as countOf, isProduct, isSquare};
 ghost use Rattle.circuit.specs.Gate.{row, recordBytes, Left, Right, Add, Sub, Scale, Flip, Mul};
-ghost use Rattle.circuit.specs.ProductTree.{times};
+ghost use Rattle.circuit.specs.Segment.{times};
 ghost use Rattle.circuit.specs.Table.{headBytes, mostGates};
 ghost use Rattle.comparison.specs.Difference.{minus};
 ghost use Rattle.writer.specs.Nodes.{nodeIs};

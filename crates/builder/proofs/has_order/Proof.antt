@@ -6,9 +6,9 @@ use Prim.Native.Nat.{_-_, _<_}
 use borrow.Author.Needs.{needs}
 use Rattle.answer.specs.Outcome.{accepted}
 use Rattle.comparison.specs.Condition.{Condition}
-use Rattle.query.specs.Reading.{readCondition}
+use Rattle.query.specs.Reading.{conditionAt, readCondition}
 use Rattle.relations.specs.Relations.{relationIs}
-use Rattle.card.specs.Parts.{conditionAt, conditionAnswer}
+use Rattle.card.specs.Parts.{conditionAnswer}
 use Rattle.card.proofs.Conditions.{lentAt, lent-long}
 use Rattle.builder.proofs.Rest.{unrefused}
 use Rattle.builder.proofs.Orders.{Seeks, starts, finishes, found, passed}

@@ -1,4 +1,4 @@
--- `builder::put_conditions` meets its contract. The invariant is `Adds`: the conditions that are left to write give all of them.
+-- `builder::put_conditions` meets its contract. The invariant is `Adds`: what is written is a draft, and the conditions that are left make it the draft of all.
 -- The measure is how many are left.
 -- Assumes nothing.
 use mathlib.Core.Path.{_≡_, refl, sym, ap, _∙_}
@@ -7,14 +7,14 @@ use native.Mathlib.Omega.{arith}
 use borrow.Author.Needs.{needs}
 use lib.ListN.{length, length-set}
 use Rattle.answer.specs.Outcome.{accepted}
-use Rattle.comparison.specs.Condition.{Condition}
+use Rattle.comparison.specs.Condition.{Condition, HasSlots}
+use Rattle.digits.specs.Number.{mostDigits}
 use Rattle.comparison.specs.Writing.{conditionSegment}
-use Rattle.query.specs.Reading.{readCondition}
+use Rattle.query.specs.Reading.{conditionAt, readCondition}
 use Rattle.relations.specs.Relations.{relationIs}
-use Rattle.card.specs.Parts.{conditionAt, conditionAnswer}
+use Rattle.card.specs.Parts.{conditionAnswer}
 use Rattle.card.proofs.Conditions.{lentAt, lent-long}
-use Rattle.builder.specs.Conditions.{segments, conditionsOf}
-use Rattle.condition.specs.Condition.{InSlots}
+use Rattle.builder.specs.Conditions.{conditionsOf, drafted}
 use Rattle.builder.proofs.Adding.{Adds, begins, ends, in-slots, fits, own-order, adds}
 use Rattle.builder.proofs.Rest.{unrefused}
 use Rattle.builder.proofs.put_conditions.Statement.{statement}
@@ -51,14 +51,14 @@ read c =
 less : (c : tie.After-relation Inv-loop μ-loop) → (let l = turn c in l .loop .k < start l .args .count)
 less c = c .before .before .before .before .loop-test .taken
 
-slotted : (c : tie.After-relation Inv-loop μ-loop) → InSlots (condition c)
+slotted : (c : tie.After-relation Inv-loop μ-loop) → HasSlots mostDigits mostDigits (condition c)
 slotted c =
     let l = turn c in in-slots _ _ _ _ _ _ _ _ _ _ (less c) (l .loop .inv .0) (condition c) (read c)
 
 fit : (c : tie.After-relation Inv-loop μ-loop) → (
     let l = turn c in
     let p = start l .args .p in
-    l .loop .pen .next + length (conditionSegment p (condition c) (l .loop .pen .next) .gates) ≤ length (segments p 0 (conditionsOf (start l .args .count) (start l .args .records .now)))
+    l .loop .pen .next + length (conditionSegment p (condition c) (l .loop .pen .next) .gates) ≤ length (drafted p (conditionsOf (start l .args .count) (start l .args .records .now)) .gates)
     )
 fit c =
     let l = turn c in fits _ _ _ _ _ _ _ _ _ _ (less c) (l .loop .inv .0) (condition c) (read c)
@@ -69,7 +69,7 @@ new-pen-requires c κs = search needs
 loop-holds : tie.Need-loop-holds Inv-loop μ-loop
 loop-holds c =
     let s = c .before .before .before .before .before .before .before in
-    (rw (c .new-pen .ensures) (begins (s .args .p) _ _ _ _ _ (s .pre .0 .0)), refl, refl, refl)
+    (rw (c .new-pen .ensures) (begins (s .args .p) _ _ _ _ _ (s .pre .readable)), refl, refl, refl)
 
 mul-read-condition : tie.Need-mul-read-condition Inv-loop μ-loop
 mul-read-condition c = search needs
@@ -87,7 +87,7 @@ read-condition-requires : tie.Need-read-condition-requires Inv-loop μ-loop
 read-condition-requires c κs =
     let l = c .before .before in
     let s = start l in
-    lent-long (s .args .records .now) (s .args .count) (l .loop .k) (s .pre .0 .0 .long) (c .before .loop-test .taken)
+    lent-long (s .args .records .now) (s .args .count) (l .loop .k) (s .pre .readable .long) (c .before .loop-test .taken)
 
 enum-known-relation : tie.Need-enum-known-relation Inv-loop μ-loop
 enum-known-relation c = search needs
@@ -100,30 +100,28 @@ put-condition-requires c κs =
     let r = c .before .before in
     let l = turn r in
     let s = start l in
-    let order = own-order _ _ _ _ _ _ _ _ _ _ (less r) (l .loop .inv .0) (condition r) (read r) in (
-      (omega (arith, fit r, l .loop .inv .0 .counts, l .loop .inv .1, s .pre .1 .0, s .pre .1 .1), s .pre .0 .1, s .pre .0 .2, s .pre .0 .3, slotted r),
-      (λ h. s .pre .1 .2 (order h), s .pre .1 .3),
-    )
+    let order = own-order _ _ _ _ _ _ _ _ _ _ (less r) (l .loop .inv .0) (condition r) (read r) in
+    (omega (arith, fit r, l .loop .inv .0 .counts, l .loop .inv .1, s .pre .room), ((s .pre .modulus, slotted r), λ h. s .pre .ready (order h)))
 
 mul-gates : tie.Need-mul-gates Inv-loop μ-loop
 mul-gates c =
-    let r = c .before .before .before .before .before in omega (arith, less r, start (turn r) .pre .0 .0 .few)
+    let r = c .before .before .before .before .before in omega (arith, less r, start (turn r) .pre .readable .few)
 
 slice-write-gates : tie.Need-slice-write-gates Inv-loop μ-loop
 slice-write-gates c =
     let r = c .before .before .before .before .before in
     let l = turn r in
-    omega (arith, less r, l .loop .inv .2, start l .pre .0 .4)
+    omega (arith, less r, l .loop .inv .2, start l .pre .outputs)
 
 mul-depths : tie.Need-mul-depths Inv-loop μ-loop
 mul-depths c =
-    let r = c .before .before .before .before .before in omega (arith, less r, start (turn r) .pre .0 .0 .few)
+    let r = c .before .before .before .before .before in omega (arith, less r, start (turn r) .pre .readable .few)
 
 slice-write-depths : tie.Need-slice-write-depths Inv-loop μ-loop
 slice-write-depths c =
     let r = c .before .before .before .before .before in
     let l = turn r in
-    omega (arith, less r, l .loop .inv .3, start l .pre .0 .5)
+    omega (arith, less r, l .loop .inv .3, start l .pre .outputs)
 
 cast-slot-2 : tie.Need-cast-slot-2 Inv-loop μ-loop
 cast-slot-2 c = search needs
@@ -152,7 +150,7 @@ returns c =
 
 add-k : tie.Need-add-k Inv-loop μ-loop
 add-k c =
-    let r = c .before .before .before .before .before .before in omega (arith, less r, start (turn r) .pre .0 .0 .few)
+    let r = c .before .before .before .before .before .before in omega (arith, less r, start (turn r) .pre .readable .few)
 
 loop-less : tie.Need-loop-less Inv-loop μ-loop
 loop-less c = search needs
@@ -165,7 +163,7 @@ loop-again c =
     let s = start l in
     let e = w .put-condition .ensures in (
       adds _ _ _ _ _ _ _ _ _ _ (less r) (l .loop .inv .0) (condition r) (read r) _ _ _ _ (e .0) (e .1 .0) (e .1 .1)
-          (omega (arith, less r, l .loop .inv .2, s .pre .0 .4)) (omega (arith, less r, l .loop .inv .3, s .pre .0 .5)),
+          (omega (arith, less r, l .loop .inv .2, s .pre .outputs)) (omega (arith, less r, l .loop .inv .3, s .pre .outputs)),
       omega (arith, l .loop .inv .1, w),
       length-set (l .loop .gates) (l .loop .k) (w .put-condition .result .node .gate) ∙ l .loop .inv .2,
       length-set (l .loop .depths) (l .loop .k) (w .put-condition .result .node .depth) ∙ l .loop .inv .3,

@@ -5,7 +5,8 @@ use mathlib.Core.Path.{sym, ap, _∙_}
 use Prim.Native.Nat.{_+_, _-_}
 use native.Mathlib.Omega.{arith}
 use borrow.Author.Needs.{needs}
-use Rattle.card.specs.Parts.{conditionAnswer, conditionAt, readSlotCount}
+use Rattle.query.specs.Reading.{conditionAt}
+use Rattle.card.specs.Parts.{conditionAnswer, readSlotCount}
 use Rattle.relations.specs.Relations.{relationIs}
 use Rattle.card.proofs.Conditions.{Sums, starts, finishes, refuses, adds, lent-long}
 use Rattle.card.proofs.read_conditions.Statement.{statement}

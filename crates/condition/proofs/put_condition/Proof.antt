@@ -1,18 +1,19 @@
 -- `condition::put_condition` meets its contract: what the sort of the relation writes, then the ending.
 -- Assumes nothing.
-use mathlib.Core.Path.{_≡_, sym, _∙_}
+use mathlib.Core.Path.{_≡_, refl, sym, _∙_}
 use mathlib.Core.Bool.{Bool}
 use native.Mathlib.Omega.{arith}
 use borrow.Author.Needs.{needs}
 use lib.ListN.{length}
 use Rattle.circuit.specs.Segment.{Segment}
-use Rattle.comparison.specs.Writing.{ending, conditionSegment}
-use Rattle.order.specs.Slots.{orderSegment}
-use Rattle.equality.specs.Slots.{equalitySegment}
+use Rattle.comparison.specs.Tests.{baseTests}
+use Rattle.comparison.specs.Writing.{orderSegment, equalitySegment, conditionSegment}
+use Rattle.order.specs.Slots.{orderCondition}
+use Rattle.equality.specs.Slots.{equalityCondition}
 use Rattle.relations.specs.Relations.{relationIs}
 use Rattle.writer.specs.Pen.{Room, Moved}
 use Rattle.condition.specs.Condition.{conditionIs}
-use Rattle.condition.proofs.Relations.{order-is, equality-is, size, ends, either-room, either-moved}
+use Rattle.condition.proofs.Relations.{ended, order-is, equality-is, size, ends, either-room, either-moved}
 use Rattle.condition.proofs.put_condition.Statement.{statement}
 use Rattle.condition.proofs.put_condition.Tie as tie
 
@@ -28,14 +29,14 @@ whole c = let a = start c .args in conditionSegment (a .p) (conditionIs (a .rela
 
 -- what is written before the ending
 abbrev order : tie.After-is-backward → Segment
-order c = let a = start (c .before .before) .args in orderSegment (a .p) (c .is-backward .result) (a .slots) (a .pen .next)
+order c = let a = start (c .before .before) .args in orderSegment (baseTests (a .p)) (orderCondition (c .is-backward .result) (a .slots)) (a .pen .next)
 
 abbrev equality : tie.Else1 → Segment
-equality c = let a = start (c .before) .args in equalitySegment (a .p) (a .slots) (a .pen .next)
+equality c = let a = start (c .before) .args in equalitySegment (a .p) (equalityCondition (a .slots)) (a .pen .next)
 
 -- the condition ends it
 ends-order : (c : tie.After-is-backward) → (
-    let o = c .before .before in whole o ≡ ending (flipped o) (start o .args .pen .next) (order c)
+    let o = c .before .before in whole o ≡ ended (flipped o) (start o .args .pen .next) (order c)
     )
 ends-order c =
     let o = c .before .before in
@@ -44,7 +45,7 @@ ends-order c =
     (sym (o .is-order .ensures) ∙ c .before .if1 .taken) (o .before .is-flipped .ensures) (c .is-backward .ensures)
 
 ends-equality : (c : tie.Else1) → (
-    let o = c .before in whole o ≡ ending (flipped o) (start o .args .pen .next) (equality c)
+    let o = c .before in whole o ≡ ended (flipped o) (start o .args .pen .next) (equality c)
     )
 ends-equality c =
     let o = c .before in
@@ -67,23 +68,16 @@ put-order-requires c κs =
     let o = b .before .before in
     let s = start o in
     let a = s .args in
-    let asked = s .pre .0 in
-    let within = asked .4 in
-    let ready = s .pre .1 .0 (sym (o .is-order .ensures) ∙ b .before .if1 .taken) in
+    let asked = s .pre .1 .0 in
     let room : Room (a .table .now) (a .pen) (length (order b .gates)) =
-    omega (arith, size (a .pen) (flipped o) (order b) (whole o) (ends-order b), asked)
+    omega (arith, size (a .pen) (flipped o) (order b) (whole o) (ends-order b), s .pre .0)
     in (
-      (
-        either-room (a .p) (b .is-backward .result) _ (a .slots) (a .pen) (asked .1) (asked .2) (within .0) (a .table .now) room,
-        asked .1,
-        asked .2,
-        asked .3,
-        within .0,
-        within .1,
-        within .2,
-        within .3,
-      ),
-      (ready .0, s .pre .1 .1, ready .1),
+      record {
+        room = either-room (a .p) (orderCondition (b .is-backward .result) (a .slots)) _ refl (a .pen) (asked .0 .0) (asked .0 .1) (asked .1 .0) (a .table .now) room;
+        modulus = asked .0;
+        prepared = s .pre .1 .1 (sym (o .is-order .ensures) ∙ b .before .if1 .taken);
+      },
+      asked .1,
     )
 
 put-ending-requires : tie.Need-put-ending-requires
@@ -93,11 +87,11 @@ put-ending-requires c κs =
     let o = b .before .before in
     let s = start o in
     let a = s .args in
-    let asked = s .pre .0 in
+    let asked = s .pre .1 .0 in
     let moved : Moved (a .pen) (length (order b .gates)) (w .put-order .result .pen) =
-    either-moved (a .p) _ (b .is-backward .result) (a .slots) (a .pen) (asked .1) (asked .2) (asked .4 .0) (w .put-order .ensures .1 .0)
+    either-moved (a .p) _ (orderCondition (b .is-backward .result) (a .slots)) refl (a .pen) (asked .0 .0) (asked .0 .1) (asked .1 .0) (w .put-order .ensures .1 .0)
     in
-    omega (arith, size (a .pen) (flipped o) (order b) (whole o) (ends-order b), asked, moved, w)
+    omega (arith, size (a .pen) (flipped o) (order b) (whole o) (ends-order b), s .pre .0, moved, w)
 
 same-length : tie.Need-same-length
 same-length c = search needs
@@ -118,7 +112,7 @@ put-equality-requires c κs =
     let i = c .before in
     let o = i .before in
     let s = start o in
-    omega (arith, size (s .args .pen) (flipped o) (equality i) (whole o) (ends-equality i), s .pre .0)
+    (omega (arith, size (s .args .pen) (flipped o) (equality i) (whole o) (ends-equality i), s .pre .0), s .pre .1 .0)
 
 put-ending-requires-2 : tie.Need-put-ending-requires-2
 put-ending-requires-2 c κs =

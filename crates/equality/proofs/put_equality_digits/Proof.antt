@@ -7,7 +7,7 @@ use Prim.Native.Nat.{ℕ, _-_, _≤_}
 use native.Mathlib.Omega.{arith}
 use borrow.Author.Needs.{needs}
 use lib.ListN.{length, take, length-set}
-use Rattle.comparison.specs.Digits.{digitStart, digitsFrom}
+use Rattle.comparison.specs.Digits.{equalityStart, equalityDigits}
 use Rattle.comparison.specs.Writing.{equalityFactors}
 use Rattle.tree.specs.Factors.{nodes}
 use Rattle.writer.specs.Nodes.{nodeIs}
@@ -24,10 +24,10 @@ Inv-loop table₀ p slots gates₀ depths₀ last₀ j₀ table gates depths las
     let c = equalityCondition slots in
     let k = last₀ .next in
     let n = slots .count in
-    (j ≤ n) × (last .next ≡ digitStart p c k j) × (last .products ≤ last .next) × (last .squares ≤ last .next) × (length table ≡ length table₀)
+    (j ≤ n) × (last .next ≡ equalityStart p k j) × (last .products ≤ last .next) × (last .squares ≤ last .next) × (length table ≡ length table₀)
     × (length gates ≡ length gates₀) × (length depths ≡ length depths₀)
-    × Remains table₀ last₀ (digitsFrom p c k n 0) table last (digitsFrom p c k (n - j) j)
-    × (nodes (take j gates) (take j depths) ++ equalityFactors p c k (n - j) j ≡ equalityFactors p c k n 0)
+    × Remains table₀ last₀ (equalityDigits p c k n 0) table last (equalityDigits p c k (n - j) j)
+    × (nodes (take j gates) (take j depths) ++ equalityFactors p k (n - j) j ≡ equalityFactors p k n 0)
 
 abbrev μ-loop : tie.MeasureT-loop
 μ-loop table₀ p slots gates₀ depths₀ last₀ j₀ table gates depths last j = slots .count - j

@@ -10,9 +10,9 @@ use Rattle.answer.specs.Outcome.{accepted}
 use Rattle.digits.specs.Number.{mostDigits}
 use Rattle.comparison.specs.Condition.{Condition}
 use Rattle.query.specs.Card.{mostConditions}
-use Rattle.query.specs.Reading.{readCondition}
+use Rattle.query.specs.Reading.{conditionAt, readCondition}
 use Rattle.forecast.specs.Counting.{mostInCondition, Within, TotalsWithin, totalsRead, conditionCounts, digitCounts}
-use Rattle.card.specs.Parts.{conditionAnswer, conditionAt}
+use Rattle.card.specs.Parts.{conditionAnswer}
 use Rattle.relations.specs.Relations.{relationIs}
 use Rattle.forecast.specs.declared.Totals.{Totals}
 use Rattle.card.proofs.Conditions.{lent-long, lentAt, counted}

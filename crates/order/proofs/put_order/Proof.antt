@@ -1,47 +1,105 @@
 -- `order::put_order` meets its contract: the digits, then their joining.
 -- Assumes nothing.
-use mathlib.Core.Path.{refl}
+use mathlib.Core.Path.{sym, ap, _∙_}
 use Prim.Native.Nat.{_-_}
 use native.Mathlib.Omega.{arith}
-use Rattle.field.proofs.Logarithm.{clog-is-ceiling}
-use Rattle.order.proofs.Whole.{length-is, segment-wrote, output-is}
 use borrow.Author.Needs.{needs}
+use lib.ListN.{length, length-append}
+use Rattle.field.proofs.Logarithm.{clog-is-ceiling}
+use Rattle.comparison.specs.Tests.{baseTests}
+use Rattle.writer.proofs.Writing.{same-gates, then}
+use Rattle.order.specs.Slots.{orderCondition}
+use Rattle.order.proofs.Whole.{digits-within, segment-is, listed-joinable}
 use Rattle.order.proofs.put_order.Statement.{statement}
 use Rattle.order.proofs.put_order.Tie as tie
 
+-- ---- the stages: the lists are lent, the digits are written
+
+abbrev start : tie.After-equal-depths → tie.Start
+start lent = lent .before .before .before .before .before .before .before .before
+
+abbrev writtenOf : tie.After-equal-depths3 → tie.After-put-order-digits
+writtenOf lent = lent .before .before .before .before .before .before .before .before .before .before .before
+
+-- ---- the needs
+
+slice-aggregate-put-order-digits : tie.Need-slice-aggregate-put-order-digits
+slice-aggregate-put-order-digits c = search needs
+
+slice-aggregate-put-order-digits-2 : tie.Need-slice-aggregate-put-order-digits-2
+slice-aggregate-put-order-digits-2 c = search needs
+
+slice-aggregate-put-order-digits-3 : tie.Need-slice-aggregate-put-order-digits-3
+slice-aggregate-put-order-digits-3 c = search needs
+
+slice-aggregate-put-order-digits-4 : tie.Need-slice-aggregate-put-order-digits-4
+slice-aggregate-put-order-digits-4 c = search needs
+
 put-order-digits-requires : tie.Need-put-order-digits-requires
 put-order-digits-requires c κs =
-    let s = c .before .before .before .before in
+    let s = start c in
     let a = s .args in
-    let size = length-is (a .p) (a .backward) (a .slots) (a .pen .next) _ refl in
-    (omega (arith, size, s .pre .0), s .pre .1)
+    let part = digits-within (baseTests (a .p)) (orderCondition (a .backward) (a .slots)) (a .pen .next) in
+    let wide = s .pre .1 in
+    (record { room = omega (arith, part, s .pre .0 .room); modulus = s .pre .0 .modulus; prepared = s .pre .0 .prepared }, (wide, omega (arith, wide)))
 
-join-digits-requires : tie.Need-join-digits-requires
-join-digits-requires c κs =
-    let d = c .before .before .before in
-    let s = d .before .before .before .before .before in
+slice-aggregate-join-lowest : tie.Need-slice-aggregate-join-lowest
+slice-aggregate-join-lowest c = search needs
+
+slice-aggregate-join-lowest-2 : tie.Need-slice-aggregate-join-lowest-2
+slice-aggregate-join-lowest-2 c = search needs
+
+slice-aggregate-join-lowest-3 : tie.Need-slice-aggregate-join-lowest-3
+slice-aggregate-join-lowest-3 c = search needs
+
+slice-aggregate-join-lowest-4 : tie.Need-slice-aggregate-join-lowest-4
+slice-aggregate-join-lowest-4 c = search needs
+
+join-lowest-requires : tie.Need-join-lowest-requires
+join-lowest-requires c κs =
+    let written = writtenOf c in
+    let s = start (written .before) in
     let a = s .args in
-    let e = d .put-order-digits .ensures in
-    let size = length-is (a .p) (a .backward) (a .slots) (a .pen .next) _ (e .1 .0 .0) in
-    (omega (arith, s .pre .0, e .1 .1, clog-is-ceiling (a .p - 1) 8 .0 (omega arith)), omega (arith, size, s .pre .0, e .1 .0, d))
+    let d = orderCondition (a .backward) (a .slots) in
+    let wide = s .pre .1 in
+    let e = written .put-order-digits .ensures in
+    let deep = clog-is-ceiling (a .p - 1) 8 .0 (omega (arith, s .pre .0 .modulus)) in
+    let whole = segment-is (baseTests (a .p)) d (a .pen .next) (wide .0) (e .1 .1) (written .put-order-digits .result .next) (e .1 .0 .0) in (
+      listed-joinable (baseTests (a .p)) d (a .pen .next) (wide .0) (e .1 .1) (omega (arith, wide)) (omega (arith, deep)) (omega (arith, deep))
+          (omega (arith, wide, written)),
+      omega (arith, simp length-append at (ap length (whole .0)), s .pre .0 .room, e .1 .0, written),
+    )
 
 same-length : tie.Need-same-length
 same-length c = search needs
 
 returns : tie.Need-returns
 returns c =
-    let j = c .before .before in
-    let d = j .before .before .before .before in
-    let s = d .before .before .before .before .before in
+    let joined = c .before .before in
+    let written = writtenOf (joined .before) in
+    let s = start (written .before) in
     let a = s .args in
-    let e = d .put-order-digits .ensures in
-    let r = j .join-digits .ensures in
-    let size = length-is (a .p) (a .backward) (a .slots) (a .pen .next) _ (e .1 .0 .0) in (
-      segment-wrote (a .p) (a .backward) (a .slots) (e .0) (r .0),
-      (omega (arith, size, e .1 .0, r .1 .0), output-is (a .p) (a .backward) (a .slots) (a .pen .next) _ _ _ _ (e .1 .0 .0) (r .1 .1 .0) (r .1 .1 .1) (e .1 .1)),
-    )
+    let d = orderCondition (a .backward) (a .slots) in
+    let wide = s .pre .1 in
+    let e = written .put-order-digits .ensures in
+    let r = joined .join-lowest .ensures in
+    let whole = segment-is (baseTests (a .p)) d (a .pen .next) (wide .0) (e .1 .1) (written .put-order-digits .result .next) (e .1 .0 .0) in
+    let wrote = same-gates (sym (whole .0)) (then (e .0) (r .0)) in
+    (wrote, ((wrote .number, r .1 .0 .1, r .1 .0 .2), r .1 .1 ∙ sym (whole .1)))
 
 pub put-order-spec : {M : Type 1} → statement M
 put-order-spec =
     tie.close
-    (tie.spec put-order-digits-requires join-digits-requires same-length returns)
+    (tie.spec
+    slice-aggregate-put-order-digits
+    slice-aggregate-put-order-digits-2
+    slice-aggregate-put-order-digits-3
+    slice-aggregate-put-order-digits-4
+    put-order-digits-requires
+    slice-aggregate-join-lowest
+    slice-aggregate-join-lowest-2
+    slice-aggregate-join-lowest-3
+    slice-aggregate-join-lowest-4
+    join-lowest-requires
+    same-length
+    returns)

@@ -1,76 +1,110 @@
--- `order::put_order_digits` meets its contract. The invariant: the digits that are left to write give all of them, and begin at the next free gate.
--- The measure is how many are left.
+-- `order::put_order_digits` meets its contract. The invariant: the digits that are left to write give all of them, and begin at the next free gate,
+-- and the lists hold the tests of the others. The measure is how many are left.
 -- Assumes nothing.
 use mathlib.Core.Path.{_≡_, refl, sym, ap, _∙_}
-use Prim.Native.Nat.{ℕ, _+_, _-_, _%_, _≤_, _<_}
+use Prim.Native.Nat.{_-_, _≤_, _<_}
 use native.Mathlib.Omega.{arith}
-use native.Mathlib.Numerals.{add-one}
 use borrow.Author.Needs.{needs}
-use lib.ListN.{length, length-append}
-use Rattle.field.specs.Logarithm.{clog}
-use Rattle.comparison.specs.Condition.{Condition}
-use Rattle.comparison.specs.Digits.{digitGates, digitStart, digitsFrom}
-use Rattle.comparison.proofs.Digits.{digits-cons, digit-next, start-first}
+use lib.ListN.{length, length-set}
+use Rattle.comparison.specs.Digits.{digitsFrom, orderDigit, orderStart, orderDigits}
+use Rattle.comparison.specs.Tests.{lessNode, equalNode, baseTests}
+use Rattle.comparison.proofs.Digits.{digits-cons}
+use Rattle.comparison.proofs.DigitTests.{order-first}
+use Rattle.comparison.proofs.Lawful.{base-lawful}
 use Rattle.writer.specs.Remains.{Remains}
 use Rattle.writer.proofs.Remains.{remains-all, remains-as, remains-then}
 use Rattle.writer.proofs.Writing.{none, same-gates}
+use Rattle.order.specs.TestsListed.{TestsListed}
 use Rattle.order.specs.Slots.{orderCondition}
+use Rattle.order.proofs.Digits.{digit-room, digit-next, listed-none, listed-next}
 use Rattle.order.proofs.put_order_digits.Statement.{statement}
 use Rattle.order.proofs.put_order_digits.Tie as tie
 
--- the next digit has room, and what is left after it is what is left
-fits : (p : ℕ) (c : Condition) (k n j next : ℕ) → j < n → next ≡ digitStart p c k j
-    → next + length (digitsFrom p c k (n - j) j) ≡ k + length (digitsFrom p c k n 0)
-    → next + length (digitGates p c j next) + length (digitsFrom p c k (n - (j + 1)) (j + 1)) ≡ k + length (digitsFrom p c k n 0)
-fits p c k n j next l here all =
-    omega (
-      arith,
-      ap length (digits-cons p c k n j l) ∙ length-append (digitGates p c j (digitStart p c k j)) _,
-      ap (λ (x : ℕ). length (digitGates p c j x)) here,
-    )
-
--- the digit after it begins where it ends
-onward : (p : ℕ) → 3 ≤ p → p % 2 ≡ 1 → (c : Condition) (k j next next′ : ℕ) → next ≡ digitStart p c k j
-    → next′ ≡ next + length (digitGates p c j next) → next′ ≡ digitStart p c k (j + 1)
-onward p three odd c k j next next′ here more =
-    more
-    ∙ ap (λ (x : ℕ). x + length (digitGates p c j x)) here
-    ∙ digit-next p three odd c k j
-    ∙ ap (digitStart p c k) (sym (add-one j))
-
 abbrev Inv-loop : tie.InvT-loop
-Inv-loop table₀ p backward slots constants depths last₀ j₀ table last j =
+Inv-loop table₀ p backward slots constants depths less₀ less-depths₀ equal₀ equal-depths₀ last₀ j₀ table less less-depths equal equal-depths last j =
+    let t = baseTests p in
     let c = orderCondition backward slots in
-    let k = last₀ .pen .next in
-    (j ≤ slots .count) × (last .pen .next ≡ digitStart p c k j)
-    × (last .pen .products ≤ last .pen .next) × (last .pen .squares ≤ last .pen .next) × (length table ≡ length table₀)
-    × (1 ≤ j → last .node .depth ≡ clog (p - 1))
-    × Remains table₀ (last₀ .pen) (digitsFrom p c k (slots .count) 0) table (last .pen) (digitsFrom p c k (slots .count - j) j)
+    let k = last₀ .next in
+    let n = slots .count in
+    (j ≤ n) × (last .next ≡ orderStart t k j) × (last .products ≤ last .next) × (last .squares ≤ last .next)
+    × Remains table₀ last₀ (orderDigits t c k n 0) table last (orderDigits t c k (n - j) j)
+    × TestsListed t k j less less-depths equal equal-depths
+    × ((length table ≡ length table₀) × (length less ≡ length less₀) × (length less-depths ≡ length less-depths₀) × (length equal ≡ length equal₀)
+    × (length equal-depths ≡ length equal-depths₀))
 
 abbrev μ-loop : tie.MeasureT-loop
-μ-loop table₀ p backward slots constants depths last₀ j₀ table last j = slots .count - j
+μ-loop table₀ p backward slots constants depths less₀ less-depths₀ equal₀ equal-depths₀ last₀ j₀ table less less-depths equal equal-depths last j =
+    slots .count - j
+
+-- ---- the stages: the start, a turn of the loop, the digit that it writes
+
+abbrev start : tie.At-loop Inv-loop μ-loop → tie.Start Inv-loop μ-loop
+start turn = turn .before .before .before .before .before .before .before .before
+
+abbrev turnOf : tie.After-put-order-digit Inv-loop μ-loop → tie.At-loop Inv-loop μ-loop
+turnOf digit = digit .before .before .before .before
+
+-- the lists are long enough for the digit
+within : (digit : tie.After-put-order-digit Inv-loop μ-loop) → (
+    let l = turnOf digit .loop in
+    (l .j < length (l .less)) × (l .j < length (l .less-depths)) × (l .j < length (l .equal)) × (l .j < length (l .equal-depths))
+    )
+within digit =
+    let turn = turnOf digit in
+    omega (arith, start turn .pre .1 .1, turn .loop .inv .6, digit .before .before .if1 .taken)
+
+-- ---- the needs
 
 loop-holds : tie.Need-loop-holds Inv-loop μ-loop
 loop-holds c =
-    let s = c .before .before .before in
-    let a = s .args in
-    let first = start-first (a .p) (s .pre .0 .1) (s .pre .0 .2) (orderCondition (a .backward) (a .slots)) (a .pen .next) in
+    let a = c .before .before .before .before .before .before .before .args in
+    let k = a .pen .next in
     let all : a .slots .count - 0 ≡ a .slots .count = omega arith in (
       omega arith,
-      sym first,
+      sym (order-first (baseTests (a .p)) k),
       omega arith,
       omega arith,
-      refl,
-      λ some. absurd (omega arith),
       rw all remains-all,
+      listed-none (baseTests (a .p)) k,
+      (refl, refl, refl, refl, refl),
     )
 
 put-order-digit-requires : tie.Need-put-order-digit-requires Inv-loop μ-loop
 put-order-digit-requires c κs =
-    let l = c .before .before .before in
-    let s = l .before .before .before .before in
-    let room = fits (s .args .p) (orderCondition (s .args .backward) (s .args .slots)) (s .args .pen .next) (s .args .slots .count) (l .loop .j) (l .loop .last .pen .next) (omega arith) (l .loop .inv .1) (l .loop .inv .6 .number) in
-    (omega (arith, room, l .loop .inv, s .pre), s .pre .1)
+    let turn = c .before .before .before in
+    let s = start turn in
+    let a = s .args in
+    let inv = turn .loop .inv in
+    let room = digit-room (baseTests (a .p)) (orderCondition (a .backward) (a .slots)) (a .pen .next) (a .slots .count) (turn .loop .j) (turn .loop .last .next)
+    (c .before .if1 .taken) (inv .1) (inv .4 .number) in
+    (record { room = omega (arith, room, inv, s .pre .0 .room); modulus = s .pre .0 .modulus; prepared = s .pre .0 .prepared }, omega (arith, s .pre .1 .0, c .before .if1 .taken))
+
+cast-at : tie.Need-cast-at Inv-loop μ-loop
+cast-at c = search needs
+
+mul-less : tie.Need-mul-less Inv-loop μ-loop
+mul-less c = search needs
+
+slice-write-less : tie.Need-slice-write-less Inv-loop μ-loop
+slice-write-less c = within (c .before .before) .0
+
+mul-less-depths : tie.Need-mul-less-depths Inv-loop μ-loop
+mul-less-depths c = search needs
+
+slice-write-less-depths : tie.Need-slice-write-less-depths Inv-loop μ-loop
+slice-write-less-depths c = within (c .before .before) .1
+
+mul-equal : tie.Need-mul-equal Inv-loop μ-loop
+mul-equal c = search needs
+
+slice-write-equal : tie.Need-slice-write-equal Inv-loop μ-loop
+slice-write-equal c = within (c .before .before) .2
+
+mul-equal-depths : tie.Need-mul-equal-depths Inv-loop μ-loop
+mul-equal-depths c = search needs
+
+slice-write-equal-depths : tie.Need-slice-write-equal-depths Inv-loop μ-loop
+slice-write-equal-depths c = within (c .before .before) .3
 
 add-j : tie.Need-add-j Inv-loop μ-loop
 add-j c = search needs
@@ -80,33 +114,61 @@ loop-less c = search needs
 
 loop-again : tie.Need-loop-again Inv-loop μ-loop
 loop-again c =
-    let w = c .before .before in
-    let l = w .before .before .before .before in
-    let s = l .before .before .before .before in
-    let d = orderCondition (s .args .backward) (s .args .slots) in
-    let e = w .put-order-digit .ensures in
-    let first = same-gates (ap (digitGates (s .args .p) d (l .loop .j)) (l .loop .inv .1)) (e .0) in (
-      omega arith,
-      onward (s .args .p) (s .pre .0 .1) (s .pre .0 .2) d (s .args .pen .next) (l .loop .j) _ _ (l .loop .inv .1) (e .1 .0 .0),
-      omega (arith, e .1 .0),
-      omega (arith, e .1 .0),
-      omega (arith, l .loop .inv .4, w),
-      λ some. e .1 .1,
-      remains-then (remains-as (digits-cons (s .args .p) d (s .args .pen .next) (s .args .slots .count) (l .loop .j) (omega arith)) (l .loop .inv .6)) first,
+    let digit = c .before .before .before in
+    let turn = turnOf digit in
+    let s = start turn in
+    let a = s .args in
+    let l = turn .loop in
+    let inv = l .inv in
+    let some = digit .before .before .if1 .taken in
+    let odd = s .pre .0 .modulus in
+    let t = baseTests (a .p) in
+    let d = orderCondition (a .backward) (a .slots) in
+    let k = a .pen .next in
+    let n = a .slots .count in
+    let e = digit .put-order-digit .ensures in
+    let left = remains-as (digits-cons (orderDigit t d) (orderStart t k) n (l .j) some) (inv .4) in
+    let here = inv .1 in (
+      omega (arith, some),
+      digit-next t d k n (l .j) _ some here (base-lawful (a .p) (odd .0) (odd .1)) (e .1 .0 .0),
+      e .1 .0 .1,
+      e .1 .0 .2,
+      remains-then left (same-gates (ap (orderDigit t d (l .j)) here) (e .0)),
+      listed-next t k (l .j) (omega (arith, within digit)) (inv .5) (e .1 .1 .0 ∙ ap (lessNode t) here) (λ upper. e .1 .1 .1 upper ∙ ap (equalNode t) here),
+      (
+        omega (arith, inv .6 .0, digit),
+        simp length-set (inv .6 .1),
+        simp length-set (inv .6 .2),
+        simp length-set (inv .6 .3),
+        simp length-set (inv .6 .4),
+      ),
     )
 
 same-length : tie.Need-same-length Inv-loop μ-loop
-same-length c = c .before .before .loop .inv .4
+same-length c = c .before .before .loop .inv .6 .0
+
+same-length-2 : tie.Need-same-length-2 Inv-loop μ-loop
+same-length-2 c = c .before .before .loop .inv .6 .1
+
+same-length-3 : tie.Need-same-length-3 Inv-loop μ-loop
+same-length-3 c = c .before .before .loop .inv .6 .2
+
+same-length-4 : tie.Need-same-length-4 Inv-loop μ-loop
+same-length-4 c = c .before .before .loop .inv .6 .3
+
+same-length-5 : tie.Need-same-length-5 Inv-loop μ-loop
+same-length-5 c = c .before .before .loop .inv .6 .4
 
 returns : tie.Need-returns Inv-loop μ-loop
 unfolding digitsFrom
 returns c =
-    let l = c .before .before in
-    let s = l .before .before .before .before in
-    let end : s .args .slots .count - l .loop .j ≡ 0 = omega arith in
-    let d = orderCondition (s .args .backward) (s .args .slots) in
-    let rest = rw end at (l .loop .inv .6) in
-    (rest .gives _ _ none, (omega (arith, rest .number, l .loop .inv), l .loop .inv .5 (omega arith)))
+    let turn = c .before .before in
+    let inv = turn .loop .inv in
+    let a = start turn .args in
+    let end : turn .loop .j ≡ a .slots .count = omega (arith, inv .0, c .if1 .left) in
+    let none-left : a .slots .count - turn .loop .j ≡ 0 = omega arith in
+    let rest = rw none-left at (inv .4) in
+    (rest .gives _ _ none, ((omega (arith, rest .number), inv .2, inv .3), rw end at (inv .5)))
 
 pub put-order-digits-spec : {M : Type 1} → statement M
 put-order-digits-spec =
@@ -116,8 +178,21 @@ put-order-digits-spec =
     μ-loop
     loop-holds
     put-order-digit-requires
+    cast-at
+    mul-less
+    slice-write-less
+    mul-less-depths
+    slice-write-less-depths
+    mul-equal
+    slice-write-equal
+    mul-equal-depths
+    slice-write-equal-depths
     add-j
     loop-less
     loop-again
     same-length
+    same-length-2
+    same-length-3
+    same-length-4
+    same-length-5
     returns)

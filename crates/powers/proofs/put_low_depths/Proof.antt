@@ -27,9 +27,10 @@ loop-holds c = (omega arith, omega arith, refl, c .before .pre .1)
 put-power-depth-requires : tie.Need-put-power-depth-requires Inv-loop μ-loop
 put-power-depth-requires c κs =
     let l = c .before .before in
-    let p = l .before .before .args .p in
+    let s = l .before .before in
+    let p = s .args .p in
     let place : powerGate p 0 (l .loop .i) ≡ l .loop .i - 1 = gate-low p 0 (l .loop .i) (omega arith) ∙ omega arith in
-    ((omega arith, omega arith, omega arith, (omega arith, omega arith, inl (omega arith)), omega arith), rw place (l .loop .inv .3))
+    ((s .pre .0 .0, omega arith, (omega arith, omega arith, inl (omega arith)), omega arith), rw place (l .loop .inv .3))
 
 add-i : tie.Need-add-i Inv-loop μ-loop
 add-i c = search needs

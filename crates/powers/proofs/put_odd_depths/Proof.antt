@@ -41,10 +41,11 @@ sub-loop c = search needs
 put-power-depth-requires : tie.Need-put-power-depth-requires Inv-loop μ-loop
 put-power-depth-requires c κs =
     let l = c .before .before in
-    let p = l .before .before .args .p in
+    let s = l .before .before in
+    let p = s .args .p in
     let i = l .loop .i in
     let place : powerGate p 0 i ≡ half p + (i / 2 - (half p + 1) / 2) = gate-high p 0 i (omega arith) ∙ omega arith in
-    ((omega arith, omega arith, omega arith, (omega arith, omega arith, inr (inl (omega arith))), omega arith), rw place (l .loop .inv .4))
+    ((s .pre .0 .0, omega arith, (omega arith, omega arith, inr (inl (omega arith))), omega arith), rw place (l .loop .inv .4))
 
 add-i-3 : tie.Need-add-i-3 Inv-loop μ-loop
 add-i-3 c = search needs

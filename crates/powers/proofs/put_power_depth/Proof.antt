@@ -18,7 +18,7 @@ halves : (s : tie.Start) → (
     let depths = s .args .depths .now in (getD depths (i / 2 - 1) 0 ≡ clog (i / 2)) × (getD depths ((i + 1) / 2 - 1) 0 ≡ clog ((i + 1) / 2))
     )
 halves s =
-    let known = s .pre .0 in deep-halves (s .args .p) (s .args .i) _ (known .0) (known .1) (known .2) (known .3 .1) (s .pre .1)
+    let known = s .pre .0 in deep-halves (s .args .p) (s .args .i) _ (known .0 .1) (known .1) (known .2 .1) (s .pre .1)
 
 sub-low : tie.Need-sub-low
 sub-low c = search needs
@@ -80,7 +80,7 @@ returns c =
     let a = s .args in
     let deep : d .deeper .result + 1 ≡ clog (a .i) = add-one _ ∙ ap suc (d .deeper .ensures) ∙ power-deep _ _ _ (omega arith) (halves s .0) (halves s .1) in
     rw (c .power-place .ensures, deep)
-    (deep-step (a .p) _ (a .i) (a .depths .now) (s .pre .0 .3) refl (omega (arith, place-within (a .p) (a .i) (omega arith))) (s .pre .1))
+    (deep-step (a .p) _ (a .i) (a .depths .now) (s .pre .0 .2) refl (omega (arith, place-within (a .p) (a .i) (omega arith))) (s .pre .1))
 
 pub put-power-depth-spec : {M : Type 1} → statement M
 put-power-depth-spec =

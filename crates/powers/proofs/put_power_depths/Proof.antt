@@ -35,8 +35,9 @@ put-power-depth-requires : tie.Need-put-power-depth-requires
 put-power-depth-requires c κs =
     let odd = c .before .before .before in
     let low = odd .before .before .before .before in
-    let a = low .before .before .before .args in (
-      (omega arith, omega arith, omega arith, (omega arith, omega arith, inr (inr refl)), omega (arith, odd, low, length-set (a .depths .now) 0 0)),
+    let s = low .before .before .before in
+    let a = s .args in (
+      (s .pre .0, omega arith, (omega arith, omega arith, inr (inr refl)), omega (arith, odd, low, length-set (a .depths .now) 0 0)),
       rw (top (a .p) (omega arith) (omega arith)) (odd .put-odd-depths .ensures),
     )
 
@@ -50,8 +51,10 @@ same-length c =
 returns : tie.Need-returns
 returns c =
     let last = c .before .before in
-    let s = last .before .before .before .before .before .before .before .before .before .before .before in
-    rw (top (s .args .p) (s .pre .0) (s .pre .1)) at (last .put-power-depth .ensures)
+    let odd = last .before .before .before .before in
+    let low = odd .before .before .before .before in
+    let s = low .before .before .before in
+    rw (top (s .args .p) (s .pre .0 .0) (s .pre .0 .1)) at (last .put-power-depth .ensures)
 
 pub put-power-depths-spec : {M : Type 1} → statement M
 put-power-depths-spec =

@@ -1,0 +1,43 @@
+-- What is proved of the table of every accepted card by any lawful tests of its order digits; document 01's table is one of them.
+-- Proved in `proofs/AnyTests.antt`.
+use mathlib.Core.Path.{_≡_}
+use mathlib.Core.Bool.{true}
+use mathlib.Core.List.{List, map, List·Permᴰ}
+use Prim.Native.Nat.{ℕ, _≤_}
+use Rattle.answer.specs.Outcome.{accepted}
+use Rattle.field.specs.Bit.{bit}
+use Rattle.digits.specs.Number.{base}
+use Rattle.circuit.specs.Depth.{depths, depth}
+use Rattle.circuit.specs.Meaning.{entryAt, output}
+use Rattle.circuit.specs.Segment.{Node}
+use Rattle.circuit.specs.Table.{allFit}
+use Rattle.circuit.specs.Tree.{Tree, leaves, height}
+use Rattle.circuit.specs.Value.{values}
+use Rattle.comparison.specs.Lawful.{Lawful}
+use Rattle.comparison.specs.Tests.{Tests}
+use Rattle.query.specs.Card.{Card}
+use Rattle.query.specs.Holds.{allHold}
+use Rattle.query.specs.Promises.{Side}
+use Rattle.query.specs.Reading.{readCard}
+use Rattle.query.specs.Whole.{filledBy, tableBy}
+
+-- the last gate is 1 exactly when all conditions hold of the two sides' numbers, and 0 otherwise
+abbrev pub LawfulAnswer : Type 0
+LawfulAnswer =
+    (bytes left right : List ℕ) (card : Card) (t : Tests) → readCard bytes ≡ accepted card → Lawful (card .prime) t
+    → Side card left → Side card right
+    → output (values (card .prime) left right) (tableBy t card .gates)
+    ≡ bit (allHold (base (card .prime)) left right (card .conditions))
+
+-- the gates keep the rules of gates
+abbrev pub LawfulFits : Type 0
+LawfulFits =
+    (bytes : List ℕ) (card : Card) (t : Tests) → readCard bytes ≡ accepted card → Lawful (card .prime) t
+    → allFit (tableBy t card .head) 0 (tableBy t card .gates) ≡ true
+
+-- every tree of two-way products over the same condition outputs, each used once, is at least as deep as the table
+abbrev pub LawfulDepth : Type 0
+LawfulDepth =
+    (bytes : List ℕ) (card : Card) (t : Tests) (tree : Tree ℕ) → readCard bytes ≡ accepted card → Lawful (card .prime) t
+    → List·Permᴰ (leaves tree) (map (λ (f : Node). f .gate) (filledBy t card .outputs))
+    → depth (tableBy t card .gates) ≤ height (entryAt depths (tableBy t card .gates)) tree
