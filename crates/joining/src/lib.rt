@@ -104,8 +104,8 @@ fn join_run(
     put_join(table, low, high)
 }
 
-// The run of all n digits, which has no E since the lowest digit has none. The node is its L.
-pub fn join_lowest(
+// The run of the n lowest digits, which has no E since the lowest digit has none. The node is its L.
+fn join_lowest(
     table: &mut [u8],
     pen: Pen,
     n: u16,
@@ -139,4 +139,29 @@ pub fn join_lowest(
         equal_depths,
     );
     put_less(table, high.pen, low.node, high.less, high.equal)
+}
+
+// The run of all n digits. A single one needs no joining, and no call of a function that calls itself.
+pub fn join_digits(
+    table: &mut [u8],
+    pen: Pen,
+    n: u16,
+    less: &[u16],
+    less_depths: &[u16],
+    equal: &[u16],
+    equal_depths: &[u16],
+) -> Written
+    requires { ⌜ Joinable (now less) (now «less_depths») (now equal) (now «equal_depths») 0 n ⌝ }
+    requires { ⌜ Room (now table) pen (length (listedWhole (now less) (now «less_depths») (now equal) (now «equal_depths») n (pen .next) .gates)) ⌝ }
+    ensures wrote { λ r. ⌜ Wrote (now (table .entry)) pen (listedWhole (now (less .entry)) (now («less_depths» .entry)) (now (equal .entry)) (now («equal_depths» .entry)) n (pen .next) .gates) (now (table .exit)) (r .pen) ⌝ }
+    ensures moves { λ r. ⌜ Moved pen (length (listedWhole (now (less .entry)) (now («less_depths» .entry)) (now (equal .entry)) (now («equal_depths» .entry)) n (pen .next) .gates)) (r .pen) ⌝ }
+    ensures output { λ r. ⌜ nodeIs (r .node) ≡ listedWhole (now (less .entry)) (now («less_depths» .entry)) (now (equal .entry)) (now («equal_depths» .entry)) n (pen .next) .output ⌝ }
+{
+    if n <= 1 {
+        return Written {
+            pen,
+            node: node_at(less, less_depths, 0),
+        };
+    }
+    join_lowest(table, pen, n, less, less_depths, equal, equal_depths)
 }

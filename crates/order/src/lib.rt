@@ -215,5 +215,5 @@ pub fn put_order(
         &mut equal_depths,
     );
     let n = slots.count;
-    joining::join_lowest(table, last, n, &less, &less_depths, &equal, &equal_depths)
+    joining::join_digits(table, last, n, &less, &less_depths, &equal, &equal_depths)
 }

@@ -43,20 +43,20 @@ put-order-digits-requires c κs =
     let wide = s .pre .1 in
     (record { room = omega (arith, part, s .pre .0 .room); modulus = s .pre .0 .modulus; prepared = s .pre .0 .prepared }, (wide, omega (arith, wide)))
 
-slice-aggregate-join-lowest : tie.Need-slice-aggregate-join-lowest
-slice-aggregate-join-lowest c = search needs
+slice-aggregate-join-digits : tie.Need-slice-aggregate-join-digits
+slice-aggregate-join-digits c = search needs
 
-slice-aggregate-join-lowest-2 : tie.Need-slice-aggregate-join-lowest-2
-slice-aggregate-join-lowest-2 c = search needs
+slice-aggregate-join-digits-2 : tie.Need-slice-aggregate-join-digits-2
+slice-aggregate-join-digits-2 c = search needs
 
-slice-aggregate-join-lowest-3 : tie.Need-slice-aggregate-join-lowest-3
-slice-aggregate-join-lowest-3 c = search needs
+slice-aggregate-join-digits-3 : tie.Need-slice-aggregate-join-digits-3
+slice-aggregate-join-digits-3 c = search needs
 
-slice-aggregate-join-lowest-4 : tie.Need-slice-aggregate-join-lowest-4
-slice-aggregate-join-lowest-4 c = search needs
+slice-aggregate-join-digits-4 : tie.Need-slice-aggregate-join-digits-4
+slice-aggregate-join-digits-4 c = search needs
 
-join-lowest-requires : tie.Need-join-lowest-requires
-join-lowest-requires c κs =
+join-digits-requires : tie.Need-join-digits-requires
+join-digits-requires c κs =
     let written = writtenOf c in
     let s = start (written .before) in
     let a = s .args in
@@ -82,7 +82,7 @@ returns c =
     let d = orderCondition (a .backward) (a .slots) in
     let wide = s .pre .1 in
     let e = written .put-order-digits .ensures in
-    let r = joined .join-lowest .ensures in
+    let r = joined .join-digits .ensures in
     let whole = segment-is (baseTests (a .p)) d (a .pen .next) (wide .0) (e .1 .1) (written .put-order-digits .result .next) (e .1 .0 .0) in
     let wrote = same-gates (sym (whole .0)) (then (e .0) (r .0)) in
     (wrote, ((wrote .number, r .1 .0 .1, r .1 .0 .2), r .1 .1 ∙ sym (whole .1)))
@@ -96,10 +96,10 @@ put-order-spec =
     slice-aggregate-put-order-digits-3
     slice-aggregate-put-order-digits-4
     put-order-digits-requires
-    slice-aggregate-join-lowest
-    slice-aggregate-join-lowest-2
-    slice-aggregate-join-lowest-3
-    slice-aggregate-join-lowest-4
-    join-lowest-requires
+    slice-aggregate-join-digits
+    slice-aggregate-join-digits-2
+    slice-aggregate-join-digits-3
+    slice-aggregate-join-digits-4
+    join-digits-requires
     same-length
     returns)
