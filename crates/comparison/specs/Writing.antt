@@ -24,6 +24,7 @@ equalOf t k j = equalNode t (orderStart t k j)
 abbrev pub orderJoining : Tests → Condition → ℕ → ℕ → Segment
 orderJoining t c k next = wholeRun (lessOf t k) (equalOf t k) (c .digits) next
 
+-- its digits, then their joining, from gate number k on
 unfoldable pub orderSegment : Tests → Condition → ℕ → Segment
 orderSegment t c k = followedBy k (orderDigits t c k (c .digits) 0) (orderJoining t c k)
 
@@ -42,11 +43,13 @@ equalityFactors p k (suc n) j = zeroOf p k j ∷ equalityFactors p k n (suc j)
 abbrev pub equalityJoining : ℕ → Condition → ℕ → ℕ → Segment
 equalityJoining p c k next = productTree next (equalityFactors p k (c .digits) 0)
 
+-- its digits, then their product tree
 unfoldable pub equalitySegment : ℕ → Condition → ℕ → Segment
 equalitySegment p c k = followedBy k (equalityDigits p c k (c .digits) 0) (equalityJoining p c k)
 
 -- ---- both
 
+-- a condition before its FLIP, by whether it compares by order
 abbrev pub segmentOf : Bool → Tests → ℕ → Condition → ℕ → Segment
 segmentOf true t p c k = orderSegment t c k
 segmentOf false t p c k = equalitySegment p c k
@@ -63,6 +66,6 @@ conditionBy t p c k =
     let s = segmentOf (isOrder (c .relation)) t p c k in
     followedBy k (s .gates) (ending (isFlipped (c .relation)) (s .output))
 
--- document 01's
+-- by document 01's tests
 abbrev pub conditionSegment : ℕ → Condition → ℕ → Segment
 conditionSegment p c k = conditionBy (baseTests p) p c k
