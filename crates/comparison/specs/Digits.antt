@@ -38,6 +38,7 @@ orderDigitSize t = 3 + t .less .count + t .equal .count
 abbrev pub orderStart : Tests → ℕ → ℕ → ℕ
 orderStart t k j = k + (orderDigitSize t * j - t .equal .count)
 
+-- n of them, from number j on
 abbrev pub orderDigits : Tests → Condition → ℕ → ℕ → ℕ → List Gate
 orderDigits t c k n j = digitsFrom (orderDigit t c) (orderStart t k) n j
 
@@ -47,11 +48,14 @@ orderDigits t c k n j = digitsFrom (orderDigit t c) (orderStart t k) n j
 abbrev pub equalityDigit : ℕ → Condition → ℕ → ℕ → List Gate
 equalityDigit p c j k = digitDifference c j k ++ equalityTest p .gates k
 
+-- how many gates it has
 abbrev pub equalityDigitSize : ℕ → ℕ
 equalityDigitSize p = 3 + equalityTest p .count
 
+-- the first gate of digit number j, where the lowest is written from gate number k on
 abbrev pub equalityStart : ℕ → ℕ → ℕ → ℕ
 equalityStart p k j = k + equalityDigitSize p * j
 
+-- n of them, from number j on
 abbrev pub equalityDigits : ℕ → Condition → ℕ → ℕ → ℕ → List Gate
 equalityDigits p c k n j = digitsFrom (equalityDigit p c) (equalityStart p k) n j
