@@ -22,7 +22,7 @@ use Rattle.circuit.specs.Factors.{breadth, listProduct}
 use Rattle.circuit.specs.Gate.{Gate}
 use Rattle.circuit.specs.Meaning.{entries, entryAt, output}
 use Rattle.circuit.specs.Segment.{Node, Segment}
-use Rattle.circuit.specs.Table.{Head, allFit}
+use Rattle.circuit.specs.Table.{Head, leftSlots, rightSlots, allFit}
 use Rattle.circuit.specs.Value.{values}
 use Rattle.circuit.proofs.Bounds.{values-below}
 use Rattle.circuit.proofs.Every.{every-map₂, map-same}
@@ -31,7 +31,7 @@ use Rattle.circuit.proofs.Kraft.{at-least}
 use Rattle.circuit.proofs.ProductTree.{tree-last, product-fits, product-count, product-value, product-depth}
 use Rattle.comparison.specs.Lawful.{Lawful}
 use Rattle.comparison.specs.Tests.{Tests}
-use Rattle.query.specs.Card.{Card, slotsOf}
+use Rattle.query.specs.Card.{Card}
 use Rattle.query.specs.Holds.{allHold}
 use Rattle.query.specs.AnyTests.{LawfulAnswer, LawfulFits, LawfulDepth}
 use Rattle.query.specs.Reading.{readCard}
@@ -111,7 +111,7 @@ module _ (bytes : List ℕ) (card : Card) (e : readCard bytes ≡ accepted card)
 
     -- ---- value
 
-    module _ (left right : List ℕ) (l : length left ≡ slotsOf (card .conditions)) (r : length right ≡ slotsOf (card .conditions))
+    module _ (left right : List ℕ) (l : length left ≡ leftSlots head) (r : length right ≡ rightSlots head)
         (hl : allBelow (base p) left ≡ true) (hr : allBelow (base p) right ≡ true) where
       abbrev answer : Bool
       answer = allHold (base p) left right (card .conditions)

@@ -17,7 +17,7 @@ use Rattle.comparison.specs.Lawful.{Lawful}
 use Rattle.comparison.specs.Tests.{Tests}
 use Rattle.query.specs.Card.{Card}
 use Rattle.query.specs.Holds.{allHold}
-use Rattle.query.specs.Promises.{Side}
+use Rattle.query.specs.Promises.{LeftSide, RightSide}
 use Rattle.query.specs.Reading.{readCard}
 use Rattle.query.specs.Whole.{filledBy, tableBy}
 
@@ -25,7 +25,7 @@ use Rattle.query.specs.Whole.{filledBy, tableBy}
 abbrev pub LawfulAnswer : Type 0
 LawfulAnswer =
     (bytes left right : List ℕ) (card : Card) (t : Tests) → readCard bytes ≡ accepted card → Lawful (card .prime) t
-    → Side card left → Side card right
+    → LeftSide card left → RightSide card right
     → output (values (card .prime) left right) (tableBy t card .gates)
     ≡ bit (allHold (base (card .prime)) left right (card .conditions))
 

@@ -20,14 +20,14 @@ use Rattle.circuit.specs.Outcomes.{checking, trimming, running}
 use Rattle.circuit.specs.Reading.{reading}
 use Rattle.circuit.specs.Report.{report}
 use Rattle.circuit.specs.Segment.{Node}
-use Rattle.circuit.specs.Table.{Table, tableBytes, wellFormed, mostGates}
+use Rattle.circuit.specs.Table.{Table, leftSlots, rightSlots, tableBytes, wellFormed, mostGates}
 use Rattle.circuit.specs.Tree.{Tree, leaves, height}
 use Rattle.circuit.specs.TreePromises.{TwoLeast}
 use Rattle.circuit.specs.Value.{values}
 use Rattle.comparison.specs.Condition.{Condition}
 use Rattle.comparison.specs.Formulas.{conditionCost, costSummand}
 use Rattle.comparison.specs.Relation.{isOrder}
-use Rattle.query.specs.Card.{Card, slotsOf}
+use Rattle.query.specs.Card.{Card}
 use Rattle.query.specs.Formulas.{gateCount, lastGates, depthFormula, productCount, squareCount, costSum, costBound, numbersOf}
 use Rattle.query.specs.Holds.{allHold}
 use Rattle.query.specs.Outcomes.{tableRoom, building, forecasting}
@@ -37,15 +37,22 @@ use Rattle.query.specs.Whole.{treeOf, filled, tableOf}
 abbrev pub gatesOf : Card → List Gate
 gatesOf card = tableOf card .gates
 
--- "A record is a left list and a query a right list, of the length that 18 asks.", here with digits below (p+1)/2
-abbrev pub Side : Card → List ℕ → Type 0
-Side card side = (length side ≡ slotsOf (card .conditions)) × (allBelow (base (card .prime)) side ≡ true)
+-- "A record is a left list and a query a right list, of the length that 18 asks.", here with digits below (p+1)/2;
+-- that length is the table's slot count of the side
+abbrev pub Side : Card → ℕ → List ℕ → Type 0
+Side card slots side = (length side ≡ slots) × (allBelow (base (card .prime)) side ≡ true)
+
+abbrev pub LeftSide : Card → List ℕ → Type 0
+LeftSide card left = Side card (leftSlots (tableOf card .head)) left
+
+abbrev pub RightSide : Card → List ℕ → Type 0
+RightSide card right = Side card (rightSlots (tableOf card .head)) right
 
 -- a. "For every record and query with digits below (p+1)/2, the last gate of the card's table is 1 exactly when all conditions hold
 -- of the two sides' numbers, and 0 otherwise."
 abbrev pub RightAnswer : Type 0
 RightAnswer =
-    (bytes left right : List ℕ) (card : Card) → readCard bytes ≡ accepted card → Side card left → Side card right
+    (bytes left right : List ℕ) (card : Card) → readCard bytes ≡ accepted card → LeftSide card left → RightSide card right
     → output (values (card .prime) left right) (gatesOf card) ≡ bit (allHold (base (card .prime)) left right (card .conditions))
 
 -- b. "It is exactly ceil(log2(p-1)) + ceil(log2(the sum over the conditions of 2^ceil(log2 n)))."
@@ -135,7 +142,7 @@ TrimsToTable =
 abbrev pub RunsTheTable : Type 0
 RunsTheTable =
     (bytes later left right work : List ℕ) (card : Card) → readCard bytes ≡ accepted card
-    → length left ≡ slotsOf (card .conditions) → length right ≡ slotsOf (card .conditions)
+    → length left ≡ leftSlots (tableOf card .head) → length right ≡ rightSlots (tableOf card .head)
     → allBelow (card .prime) left ≡ true → allBelow (card .prime) right ≡ true → length (gatesOf card) ≤ length work
     → running (tableBytes (tableOf card) ++ later) left right work .answer
     ≡ accepted (output (values (card .prime) left right) (gatesOf card))
@@ -144,7 +151,7 @@ RunsTheTable =
 abbrev pub RightRun : Type 0
 RightRun =
     (bytes later left right work : List ℕ) (card : Card) → readCard bytes ≡ accepted card
-    → Side card left → Side card right → length (gatesOf card) ≤ length work
+    → LeftSide card left → RightSide card right → length (gatesOf card) ≤ length work
     → running (tableBytes (tableOf card) ++ later) left right work .answer
     ≡ accepted (bit (allHold (base (card .prime)) left right (card .conditions)))
 
@@ -160,7 +167,7 @@ SameRun =
 abbrev pub BuiltRun : Type 0
 BuiltRun =
     (bytes lent left right work : List ℕ) (card : Card) → readCard bytes ≡ accepted card → tableRoom (tableOf card) ≤ length lent
-    → Side card left → Side card right → length (gatesOf card) ≤ length work
+    → LeftSide card left → RightSide card right → length (gatesOf card) ≤ length work
     → let answer = accepted (bit (allHold (base (card .prime)) left right (card .conditions))) in
     (running (building bytes lent .lent) left right work .answer ≡ answer)
     × (running (trimming (building bytes lent .lent)) left right work .answer ≡ answer)
@@ -183,7 +190,7 @@ BuildsWithRoom =
 abbrev pub BuiltValue : Type 0
 BuiltValue =
     (bytes lent left right : List ℕ) (card : Card) (told : Report) (table : Table) → Built bytes lent card told table
-    → Side card left → Side card right
+    → LeftSide card left → RightSide card right
     → output (values (card .prime) left right) (table .gates) ≡ bit (allHold (base (card .prime)) left right (card .conditions))
 
 -- "The reported depth is the table's own. It is exactly ..", and every tree over the same outputs is at least as deep
