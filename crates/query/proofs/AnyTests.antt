@@ -1,9 +1,9 @@
 -- The table of an accepted card by any lawful tests of its order digits: its draft is sound (`Whole`), and its product tree ends the table;
 -- so the table's last gate is the tree's output, and the laws of product trees give value, depth and rules.
 -- Assumes nothing.
-use mathlib.Core.Path.{_≡_, sym, ap, _∙_}
+use mathlib.Core.Path.{_≡_, refl, sym, ap, _∙_}
 use mathlib.Core.Bool.{Bool, true}
-use mathlib.Core.List.{List, map, map-map}
+use mathlib.Core.List.{List, [], _∷_, map, map-map}
 use Prim.Native.Nat.{ℕ, suc, _-_, _%_, _^_, _≤_, _<_}
 use native.Mathlib.Omega.{arith}
 use native.Mathlib.Nat.{zero-add, mod-eq-of-lt}
@@ -12,15 +12,14 @@ use Rattle.answer.specs.Outcome.{accepted}
 use Rattle.field.specs.Bit.{bit}
 use Rattle.field.specs.Logarithm.{clog}
 use Rattle.field.specs.Sum.{total}
-use Rattle.field.proofs.Bit.{bit-below}
+use Rattle.field.proofs.Bit.{bit-and, bit-below}
 use Rattle.digits.specs.Number.{base, allBelow}
 use Rattle.digits.proofs.Number.{below-at, below-weaken}
-use Rattle.circuit.specs.Count.{count}
 use Rattle.circuit.specs.Depth.{depths, depth}
 use Rattle.circuit.specs.Every.{Every}
 use Rattle.circuit.specs.Factors.{breadth, listProduct}
 use Rattle.circuit.specs.Gate.{Gate}
-use Rattle.circuit.specs.Meaning.{entries, entryAt, output}
+use Rattle.circuit.specs.Meaning.{Algebra, entries, entryAt, output}
 use Rattle.circuit.specs.Segment.{Node, Segment}
 use Rattle.circuit.specs.Table.{Head, leftSlots, rightSlots, allFit}
 use Rattle.circuit.specs.Value.{values}
@@ -29,15 +28,23 @@ use Rattle.circuit.proofs.Every.{every-map₂, map-same}
 use Rattle.circuit.proofs.Fitting.{fit-append}
 use Rattle.circuit.proofs.Kraft.{at-least}
 use Rattle.circuit.proofs.ProductTree.{tree-last, product-fits, product-count, product-value, product-depth}
+use Rattle.comparison.specs.Condition.{Condition, holds}
 use Rattle.comparison.specs.Lawful.{Lawful}
 use Rattle.comparison.specs.Tests.{Tests}
 use Rattle.query.specs.Card.{Card}
-use Rattle.query.specs.Holds.{allHold}
-use Rattle.query.specs.AnyTests.{LawfulAnswer, LawfulFits, LawfulDepth}
+use Rattle.query.specs.Holds.{allHold, truths}
+use Rattle.query.specs.AnyTests.{LawfulAnswer, LawfulOutputs, LawfulFits, LawfulDepth}
 use Rattle.query.specs.Reading.{readCard}
 use Rattle.query.specs.Whole.{Draft, begin, treeOf, filledBy, tableBy, tableOf}
 use Rattle.query.proofs.CardFacts.{Accepted, accepted-card}
 use Rattle.query.proofs.Whole.{Good, Sound, begin-sound, outputs-kept, all-outputs, all-sound, all-value}
+
+-- the truths' product tells whether all conditions hold
+truths-product : (B : ℕ) (left right : List ℕ) (cs : List Condition) → listProduct (truths B left right cs) ≡ bit (allHold B left right cs)
+unfolding listProduct
+truths-product B left right [] = refl
+truths-product B left right (c ∷ cs) =
+    rw (truths-product B left right cs) (sym (bit-and (holds B left right c) (allHold B left right cs)))
 
 -- ---- the draft and the tree
 
@@ -113,37 +120,47 @@ module _ (bytes : List ℕ) (card : Card) (e : readCard bytes ≡ accepted card)
 
     module _ (left right : List ℕ) (l : length left ≡ leftSlots head) (r : length right ≡ rightSlots head)
         (hl : allBelow (base p) left ≡ true) (hr : allBelow (base p) right ≡ true) where
+      abbrev alg : Algebra ℕ
+      alg = values p left right
+
       abbrev answer : Bool
       answer = allHold (base p) left right (card .conditions)
 
-      -- the outputs' product is the answer's bit
-      product-is : listProduct (map (λ (f : Node). entryAt (values p left right) (draft .gates) (f .gate)) (draft .outputs)) ≡ bit answer
-      unfolding listProduct
-      product-is =
+      abbrev bits : List ℕ
+      bits = truths (base p) left right (card .conditions)
+
+      -- the outputs' values in the draft are the conditions' truths
+      draft-values : map (λ (f : Node). entryAt alg (draft .gates) (f .gate)) (draft .outputs) ≡ bits
+      draft-values =
           all-value t head law three (known .prime .prime) (known .prime .odd) left right (omega arith) (omega arith) hl hr
           begin (card .conditions) (begin-sound head) good
-          ∙ omega arith
 
-      below : output (values p left right) gates < p
+      -- and so they are in the table: the tree's gates change none of them
+      output-values : map (λ (f : Node). entryAt alg gates (f .gate)) (draft .outputs) ≡ bits
+      output-values = map-same _ _ (draft .outputs) (outputs-kept head alg draft (tree .gates) sound) ∙ draft-values
+
+      below : output alg gates < p
       below =
           let low : base p ≤ p = omega (arith, three) in
-          below-at p (entries (values p left right) gates) (length gates - 1) (omega (arith, three))
+          below-at p (entries alg gates) (length gates - 1) (omega (arith, three))
           (values-below p left right gates (omega (arith, three))
           (below-weaken (base p) p left low hl) (below-weaken (base p) p right low hr))
 
-      right-value : output (values p left right) gates ≡ bit answer
+      right-value : output alg gates ≡ bit answer
       right-value =
-          let alg = values p left right in
           sym (mod-eq-of-lt below)
           ∙ ap (λ (g : ℕ). entryAt alg gates g % p) (sym last-gate)
           ∙ product-value p left right (draft .gates) (draft .outputs) (omega (arith, three)) some (sound .order)
-          ∙ ap (λ (v : ℕ). v % p) product-is
+          ∙ ap (λ (v : ℕ). v % p) (ap listProduct draft-values ∙ truths-product (base p) left right (card .conditions))
           ∙ mod-eq-of-lt (bit-below p (omega (arith, three)) answer)
 
 -- ---- the promises
 
 pub lawful-answer : LawfulAnswer
 lawful-answer bytes left right card t e law l r = right-value bytes card e t law left right (l .0) (r .0) (l .1) (r .1)
+
+pub lawful-outputs : LawfulOutputs
+lawful-outputs bytes left right card t e law l r = output-values bytes card e t law left right (l .0) (r .0) (l .1) (r .1)
 
 pub lawful-fits : LawfulFits
 lawful-fits bytes card t e law = gates-fit bytes card e t law

@@ -24,7 +24,6 @@ use Rattle.circuit.specs.Depth.{depth}
 use Rattle.circuit.specs.Every.{Every}
 use Rattle.circuit.specs.Factors.{breadth}
 use Rattle.circuit.specs.Gate.{Gate}
-use Rattle.circuit.specs.Meaning.{output}
 use Rattle.circuit.specs.Outcomes.{running}
 use Rattle.circuit.specs.Report.{report}
 use Rattle.circuit.specs.Segment.{Segment}

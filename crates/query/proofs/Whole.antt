@@ -6,19 +6,17 @@ use mathlib.Core.Bool.{true}
 use mathlib.Core.List.{List, [], _∷_, _++_, map, map-append, append-assoc, append-nil}
 use Prim.Native.Nat.{ℕ, suc, _+_, _-_, _*_, _%_, _^_, _≤_}
 use native.Mathlib.Omega.{arith}
-use native.Mathlib.Nat.{le-refl, zero-add, mul-comm}
+use native.Mathlib.Nat.{le-refl, zero-add}
 use lib.ListN.{length, length-append}
 use lib.Pow.{pow-add}
-use Rattle.field.specs.Bit.{bit}
 use Rattle.field.specs.Logarithm.{clog}
 use Rattle.field.specs.Primes.{Prime}
 use Rattle.field.specs.Sum.{total}
-use Rattle.field.proofs.Bit.{bit-and}
 use Rattle.digits.specs.Number.{base, allBelow}
 use Rattle.circuit.specs.Count.{isProduct, isSquare, count}
 use Rattle.circuit.specs.Depth.{depths}
 use Rattle.circuit.specs.Every.{Every}
-use Rattle.circuit.specs.Factors.{InOrder, breadth, listProduct}
+use Rattle.circuit.specs.Factors.{InOrder, breadth}
 use Rattle.circuit.specs.Gate.{Gate}
 use Rattle.circuit.specs.Meaning.{Algebra, entryAt}
 use Rattle.circuit.specs.Segment.{Node}
@@ -30,8 +28,8 @@ use Rattle.circuit.proofs.Every.{every-map, every-map₂, every-append, map-sam
 use Rattle.circuit.proofs.Fitting.{fit-append}
 use Rattle.circuit.proofs.Meaning.{entries-kept}
 use Rattle.circuit.proofs.ProductTree.{left-over}
-use Rattle.circuit.proofs.Rearranged.{last-first, same-breadth, same-product}
-use Rattle.comparison.specs.Condition.{Condition, HasSlots, holds}
+use Rattle.circuit.proofs.Rearranged.{last-first, same-breadth}
+use Rattle.comparison.specs.Condition.{Condition, HasSlots}
 use Rattle.comparison.specs.Formulas.{conditionSize, conditionProducts, conditionSquares}
 use Rattle.comparison.specs.Lawful.{Lawful}
 use Rattle.comparison.specs.Tests.{Tests, baseTests}
@@ -39,7 +37,7 @@ use Rattle.comparison.specs.Writing.{conditionBy, conditionSegment}
 use Rattle.comparison.proofs.Condition.{output-is-last, condition-writes, condition-sized, condition-fits, condition-counts, condition-holds, condition-tells, condition-depth}
 use Rattle.comparison.proofs.Lawful.{base-lawful}
 use Rattle.query.specs.Formulas.{overConditions, lastGates}
-use Rattle.query.specs.Holds.{allHold}
+use Rattle.query.specs.Holds.{truths}
 use Rattle.query.specs.Whole.{Draft, begin, add, addAll}
 
 -- a condition's slots are among those of a head
@@ -104,34 +102,29 @@ module _ (t : Tests) (head : Head) (law : Lawful (head .prime) t) (three : 3 ≤
 
   module _ (prime : Prime p) (odd : p % 2 ≡ 1) (left right : List ℕ) (l : leftSlots head ≤ length left) (r : rightSlots head ≤ length right)
       (hl : allBelow (base p) left ≡ true) (hr : allBelow (base p) right ≡ true) where
-    -- the product of the outputs' values
-    abbrev pub valueOf : Draft → ℕ
-    valueOf draft = listProduct (map (λ (f : Node). entryAt (values p left right) (draft .gates) (f .gate)) (draft .outputs))
+    abbrev outputValues : Draft → List ℕ
+    outputValues draft = map (λ (f : Node). entryAt (values p left right) (draft .gates) (f .gate)) (draft .outputs)
 
     add-value : (draft : Draft) (c : Condition) → Sound head draft → Good head c
-        → valueOf (add t p draft c) ≡ valueOf draft * bit (holds (base p) left right c)
-    unfolding listProduct
+        → outputValues (add t p draft c) ≡ outputValues draft ++ truths (base p) left right (c ∷ [])
     add-value draft c sound good =
         let alg = values p left right in
         let written = conditionBy t p c (length (draft .gates)) in
-        let new : Node → ℕ = λ f. entryAt alg (draft .gates ++ written .gates) (f .gate) in
         let slots : HasSlots (length left) (length right) c = (good .0, omega (arith, good .1), omega (arith, good .2)) in
         let here = condition-holds p t left right (draft .gates) c law prime three odd slots hl hr in
-        ap listProduct (map-append new (draft .outputs) (written .output ∷ []))
-        ∙ same-product (last-first (map new (draft .outputs)) (new (written .output)))
-        ∙ mul-comm (new (written .output)) _
-        ∙ ap₂ _*_ (ap listProduct (map-same _ _ (draft .outputs) (outputs-kept head alg draft (written .gates) sound))) here
+        map-append _ (draft .outputs) (written .output ∷ [])
+        ∙ ap₂ (λ (vs : List ℕ) (v : ℕ). vs ++ (v ∷ [])) (map-same _ _ (draft .outputs) (outputs-kept head alg draft (written .gates) sound)) here
 
+    -- the outputs of before keep their values, and the conditions' truths follow
     pub all-value : (draft : Draft) (cs : List Condition) → Sound head draft → Every (Good head) cs
-        → valueOf (addAll t p draft cs) ≡ valueOf draft * bit (allHold (base p) left right cs)
+        → outputValues (addAll t p draft cs) ≡ outputValues draft ++ truths (base p) left right cs
     unfolding addAll
-    all-value draft [] sound good = omega arith
+    all-value draft [] sound good = sym (append-nil _)
     all-value draft (c ∷ cs) sound good =
-        let one = holds (base p) left right c in
-        let more = allHold (base p) left right cs in
+        let more = truths (base p) left right cs in
         all-value (add t p draft c) cs (add-sound draft c sound (good .0)) (good .1)
-        ∙ ap (λ (v : ℕ). v * bit more) (add-value draft c sound (good .0))
-        ∙ omega (arith, ap (λ (v : ℕ). valueOf draft * v) (bit-and one more))
+        ∙ ap (λ (vs : List ℕ). vs ++ more) (add-value draft c sound (good .0))
+        ∙ append-assoc (outputValues draft) _ more
 
 -- ---- by any tests: how a draft grows
 

@@ -16,7 +16,7 @@ use Rattle.circuit.specs.Value.{values}
 use Rattle.comparison.specs.Lawful.{Lawful}
 use Rattle.comparison.specs.Tests.{Tests}
 use Rattle.query.specs.Card.{Card}
-use Rattle.query.specs.Holds.{allHold}
+use Rattle.query.specs.Holds.{allHold, truths}
 use Rattle.query.specs.Promises.{LeftSide, RightSide}
 use Rattle.query.specs.Reading.{readCard}
 use Rattle.query.specs.Whole.{filledBy, tableBy}
@@ -28,6 +28,14 @@ LawfulAnswer =
     → LeftSide card left → RightSide card right
     → output (values (card .prime) left right) (tableBy t card .gates)
     ≡ bit (allHold (base (card .prime)) left right (card .conditions))
+
+-- the conditions' outputs have, one by one, the values of their conditions' truths: 1 where the condition holds, and 0 otherwise
+abbrev pub LawfulOutputs : Type 0
+LawfulOutputs =
+    (bytes left right : List ℕ) (card : Card) (t : Tests) → readCard bytes ≡ accepted card → Lawful (card .prime) t
+    → LeftSide card left → RightSide card right
+    → map (λ (f : Node). entryAt (values (card .prime) left right) (tableBy t card .gates) (f .gate)) (filledBy t card .outputs)
+    ≡ truths (base (card .prime)) left right (card .conditions)
 
 -- the gates keep the rules of gates
 abbrev pub LawfulFits : Type 0
