@@ -1,8 +1,8 @@
 -- Counts of gates written one after the other, and of those of a finished table.
 -- Assumes nothing.
 use mathlib.Core.Path.{_≡_, refl}
-use mathlib.Core.Bool.{Bool}
-use mathlib.Core.List.{List, [], _∷_, _++_}
+use mathlib.Core.Bool.{Bool, false}
+use mathlib.Core.List.{List, [], _∷_, _++_, map}
 use Prim.Native.Nat.{_+_}
 use native.Mathlib.Omega.{arith}
 use Rattle.circuit.specs.Count.{isSquare, isProduct, counted, count, products, squares}
@@ -12,6 +12,13 @@ pub count-append : (test : Gate → Bool) (gs hs : List Gate) → count test (gs
 unfolding count
 count-append test [] hs = omega arith
 count-append test (g ∷ gs) hs = omega (arith, count-append test gs hs)
+
+-- gates of which none passes
+pub count-none : {X : Type 0} (test : Gate → Bool) (gate : X → Gate) → ((x : X) → test (gate x) ≡ false) → (xs : List X)
+    → count test (map gate xs) ≡ 0
+unfolding count
+count-none test gate none [] = refl
+count-none test gate none (x ∷ xs) = rw (none x) (omega (arith, count-none test gate none xs))
 
 -- what is counted of a finished table: its records
 pub all-counted : (gates : List Gate) → (products gates ≡ count isProduct gates) × (squares gates ≡ count isSquare gates)

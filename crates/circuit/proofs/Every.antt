@@ -17,6 +17,11 @@ module _ {X : Type 0} where
   map-same F G [] h = refl
   map-same F G (x ∷ xs) h = ap₂ _∷_ (h .0) (map-same F G xs (h .1))
 
+  -- what is made of each entry
+  pub every-made : {Y : Type 0} (P : Y → Type 0) (F : X → Y) (xs : List X) → Every (λ x. P (F x)) xs → Every P (map F xs)
+  every-made P F [] h = tt
+  every-made P F (x ∷ xs) h = (h .0, every-made P F xs (h .1))
+
   pub every-append : (P : X → Type 0) (xs ys : List X) → Every P xs → Every P ys → Every P (xs ++ ys)
   every-append P [] ys h k = k
   every-append P (x ∷ xs) ys h k = (h .0, every-append P xs ys (h .1) k)

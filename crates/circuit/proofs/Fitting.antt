@@ -4,7 +4,8 @@
 use mathlib.Core.Path.{_≡_, refl}
 use mathlib.Core.Bool.{true, _&&_}
 use mathlib.Core.List.{List, [], _∷_, _++_}
-use Prim.Native.Nat.{ℕ, suc, _+_, _<_}
+use Prim.Native.Nat.{ℕ, suc, _+_, _≤_, _<_}
+use native.Mathlib.Omega.{arith}
 use native.Mathlib.Nat.{add-zero, add-suc, suc-add}
 use borrow.Author.Tests.{ltb-true, lt-ltb}
 use lib.Dec.{ltb}
@@ -93,6 +94,21 @@ pub all-fit : (head : Head) (k : ℕ) (gs : List Gate) → AllFitted head k gs �
 unfolding allFit
 all-fit head k [] h = refl
 all-fit head k (g ∷ gs) h = rw (one-fits head k g (h .0)) (all-fit head (suc k) gs (h .1))
+
+-- ---- later gates
+
+-- a gate that fits, fits later
+pub fits-later : (head : Head) (k m : ℕ) (g : Gate) → k ≤ m → fits head k g ≡ true → fits head m g ≡ true
+fits-later head k m g l t = one-fits head m g (later g (fitted head k g t))
+  where
+    later : (g : Gate) → Fitted head k g → Fitted head m g
+    later (Left a) h = h
+    later (Right a) h = h
+    later (Add a b) h = omega arith
+    later (Sub a b) h = omega arith
+    later (Scale a b) h = (omega arith, h .1)
+    later (Flip a) h = omega arith
+    later (Mul a b) h = omega arith
 
 -- gates after gates
 pub fit-append : (head : Head) (k : ℕ) (gs hs : List Gate) → allFit head k gs ≡ true → allFit head (k + length gs) hs ≡ true

@@ -20,4 +20,5 @@ pub mod Choosing
 pub mod Kraft
 pub mod TreeDepth
 pub mod ProductTree
+pub mod Sums
 pub mod ListOrder

@@ -1,4 +1,4 @@
--- To be believed by a reader of the promises: gates and their bytes, what they mean, what Check, Trim and Run answer, and product trees.
+-- To be believed by a reader of the promises: gates and their bytes, what they mean, what Check, Trim and Run answer, product trees and sums.
 pub mod Bytes
 pub mod Constant
 pub mod Gate
@@ -15,9 +15,11 @@ pub mod Segment
 pub mod Tree
 pub mod ProductTree
 pub mod Factors
+pub mod Sums
 pub mod Equations
 pub mod Promises
 pub mod TreePromises
+pub mod SumPromises
 pub mod ListOrder
 pub mod Bench
 pub mod RefusalOrder
