@@ -19,18 +19,20 @@ use Rattle.circuit.specs.Count.{count, isProduct, isSquare}
 use Rattle.circuit.specs.Depth.{depths}
 use Rattle.circuit.specs.Every.{Every}
 use Rattle.circuit.specs.Meaning.{Algebra, Solves}
+use Rattle.circuit.specs.Sums.{sumGate}
 use Rattle.circuit.specs.Table.{Head, allFit}
 use Rattle.circuit.specs.Value.{values}
 use Rattle.circuit.proofs.Count.{count-append}
 use Rattle.circuit.proofs.Every.{every-append, every-last}
 use Rattle.circuit.proofs.Fitting.{all-fit, fit-append}
 use Rattle.circuit.proofs.Meaning.{solves-append}
+use Rattle.circuit.proofs.Sums.{largest-covers, largest-within}
 use Rattle.comparison.specs.Difference.{zGate}
 use Rattle.comparison.specs.OrderDigit.{half, powers, powerCount, powerGate, terms, termStart, lessCount, lessGates, equalGates}
 use Rattle.comparison.proofs.Mapped.{every-second}
 use Rattle.comparison.proofs.Powers.{Asked, gate-low, gate-high, asked-top, powers-length, power-value, power-depth}
 use Rattle.comparison.proofs.PowersCount.{powers-fit, powers-count}
-use Rattle.comparison.proofs.Terms.{terms-length, terms-count, terms-fit, terms-value, terms-below, terms-covers, terms-within}
+use Rattle.comparison.proofs.Terms.{terms-count, terms-fit, terms-value, terms-below, terms-depth}
 
 -- ---- the gates of L and of E
 
@@ -67,6 +69,13 @@ power-before p z i odd three one asked = go (decLe i (half p))
     go (no n) = rw (gate-high p z i (lt-of-not-le n)) (omega (arith, asked-top p i asked))
 
 module _ (p : ℕ) (three : 3 ≤ p) (odd : p % 2 ≡ 1) where
+  -- the sum is the last of the terms
+  some : 1 ≤ length (orderExponents p)
+  some = omega (arith, exponents-length p)
+
+  sum-last : (k : ℕ) → sumGate (termStart p k) (length (orderExponents p)) ≡ lessGate p k
+  sum-last k = omega (arith, exponents-length p)
+
   -- ---- how many gates
 
   pub less-length : (k : ℕ) → length (lessGates p k) ≡ powerCount p + p
@@ -76,7 +85,7 @@ module _ (p : ℕ) (three : 3 ≤ p) (odd : p % 2 ≡ 1) where
         arith,
         powers-length p (zGate k) three odd,
         exponents-length p,
-        terms-length p (zGate k) (termStart p k) (orderExponents p) (omega (arith, exponents-length p)),
+        terms-count p (zGate k) (termStart p k) (orderExponents p) some .0,
       )
 
   pub less-count : (k : ℕ) → (count isProduct (lessGates p k) ≡ half p - 1) × (count isSquare (lessGates p k) ≡ half p / 2 + 1)
@@ -85,8 +94,8 @@ module _ (p : ℕ) (three : 3 ≤ p) (odd : p % 2 ≡ 1) where
       let ps = powers p z in
       let ts = terms p z (termStart p k) (orderExponents p) in
       let first = powers-count p z three odd in
-      let second = terms-count p z (termStart p k) (orderExponents p) in
-      (omega (arith, count-append isProduct ps ts, first .0, second .0), omega (arith, count-append isSquare ps ts, first .1, second .1))
+      let second = terms-count p z (termStart p k) (orderExponents p) some in
+      (omega (arith, count-append isProduct ps ts, first .0, second .1), omega (arith, count-append isSquare ps ts, first .1, second .2))
 
   -- ---- what they name
 
@@ -113,13 +122,6 @@ module _ (p : ℕ) (three : 3 ≤ p) (odd : p % 2 ≡ 1) where
       let after : suc z + length (powers p z) ≡ termStart p k = omega (arith, powers-length p z three odd) in
       let s = solves-append alg E (powers p z) _ (suc z) h in (s .0, rw after at (s .1))
 
-  -- the sum is the last of the terms
-  some : 1 ≤ length (orderExponents p)
-  some = omega (arith, exponents-length p)
-
-  sum-last : (k : ℕ) → termStart p k + 2 * (length (orderExponents p) - 1) ≡ lessGate p k
-  sum-last k = omega (arith, exponents-length p)
-
   -- ---- values
 
   module _ (left right : List ℕ) (E : ℕ → ℕ) (k : ℕ) (h : Solves (values p left right) E (suc (zGate k)) (lessGates p k)) where
@@ -135,10 +137,10 @@ module _ (p : ℕ) (three : 3 ≤ p) (odd : p % 2 ≡ 1) where
         let ts = parts (values p left right) E k h .1 in
         let z = zGate k in
         let t = termStart p k in
-        let last = lessGate p k in
         let is = orderExponents p in
-        sym (mod-eq-of-lt (terms-below left right E p z (E z) (omega arith) t last is some (sum-last k) ts))
-        ∙ terms-value left right E p z (E z) (omega arith) t last is some (sum-last k) powers-are ts
+        rw (← sum-last k)
+        (sym (mod-eq-of-lt (terms-below left right E p z (E z) (omega arith) t is some ts))
+        ∙ terms-value left right E p z (E z) (omega arith) t is some powers-are ts)
 
     pub equal-value : Solves (values p left right) E (equalGate p k) (equalGates p k) → E (equalGate p k) ≡ zeroTest p (E (zGate k))
     equal-value e = e .0 ∙ sub-cong p 1 _ _ (omega arith) (power-is (p - 1) (omega arith) (inr refl))
@@ -151,15 +153,15 @@ module _ (p : ℕ) (three : 3 ≤ p) (odd : p % 2 ≡ 1) where
 
     pub less-depth : E (lessGate p k) ≡ clog (p - 1)
     less-depth =
-        let ts = parts depths E k h .1 in
-        le-antisymm
-        (terms-within E p (zGate k) (clog (p - 1)) (termStart p k) (lessGate p k) (orderExponents p) some (sum-last k) ts
+        let z = zGate k in
+        let is = orderExponents p in
+        let depth : ℕ → ℕ = λ i. E (powerGate p z i) in
+        rw (← sum-last k)
+        (terms-depth E p z (termStart p k) is some (parts depths E k h .1)
+        ∙ le-antisymm
+        (largest-within depth (clog (p - 1)) is
         (every-exponent _ p three odd (λ i one asked. omega (arith, deep i one asked, clog-mono (asked-top p i asked)))))
-        (omega (
-          arith,
-          deep (p - 1) (omega arith) (inr refl),
-          last-exponent _ p (terms-covers E p (zGate k) (termStart p k) (lessGate p k) (orderExponents p) some (sum-last k) ts),
-        ))
+        (omega (arith, deep (p - 1) (omega arith) (inr refl), last-exponent _ p (largest-covers depth is))))
 
     pub equal-depth : Solves depths E (equalGate p k) (equalGates p k) → E (equalGate p k) ≡ clog (p - 1)
     equal-depth e = e .0 ∙ deep (p - 1) (omega arith) (inr refl)

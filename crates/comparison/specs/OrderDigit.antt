@@ -5,7 +5,8 @@ use mathlib.Core.List.{List, [], _∷_, _++_, map}
 use lib.Dec.{leb}
 use Rattle.field.specs.Polynomials.{everySecond, orderExponents, orderConstant}
 use Rattle.circuit.specs.Constant.{code}
-use Rattle.circuit.specs.Gate.{Gate, Add, Scale, Flip, Mul}
+use Rattle.circuit.specs.Gate.{Gate, Scale, Flip, Mul}
+use Rattle.circuit.specs.Sums.{sumFrom}
 use Rattle.comparison.specs.Difference.{zGate}
 
 -- (p-1)/2
@@ -55,14 +56,9 @@ powerGate p z i =
 abbrev pub term : ℕ → ℕ → ℕ → Gate
 term p z i = Scale (powerGate p z i) (code p (orderConstant p i))
 
--- terms after the first, each "followed by ADD(sum, it)": from gate number k on, over the gate of the sum so far
-unfoldable pub laterTerms : ℕ → ℕ → ℕ → ℕ → List ℕ → List Gate
-laterTerms p z k sum [] = []
-laterTerms p z k sum (i ∷ is) = term p z i ∷ Add sum k ∷ laterTerms p z (suc (suc k)) (suc k) is
-
+-- "each after the first followed by ADD(sum, it)": from gate number k on
 abbrev pub terms : ℕ → ℕ → ℕ → List ℕ → List Gate
-terms p z k [] = []
-terms p z k (i ∷ is) = term p z i ∷ laterTerms p z (suc k) k is
+terms p z k is = sumFrom k (map (term p z) is)
 
 -- the first gate of the terms, over the difference whose first gate is number k
 abbrev pub termStart : ℕ → ℕ → ℕ

@@ -9,9 +9,10 @@ use Rattle.field.specs.Sum.{sum, total}
 use Rattle.circuit.specs.Count.{counted, count}
 use Rattle.circuit.specs.Meaning.{interpret}
 use Rattle.circuit.specs.ProductTree.{least, multiply}
+use Rattle.circuit.specs.Sums.{laterSum}
 use Rattle.comparison.specs.Digits.{digitsFrom}
 use Rattle.comparison.specs.Joining.{halves, joinLowest}
-use Rattle.comparison.specs.OrderDigit.{ascending, powerGate, laterTerms}
+use Rattle.comparison.specs.OrderDigit.{ascending, powerGate}
 use Rattle.comparison.specs.Writing.{orderSegment, conditionBy}
 use Rattle.query.specs.Reading.{readConditions}
 use Rattle.query.specs.Whole.{addAll}
@@ -20,5 +21,5 @@ use Rattle.listing.specs.Lines.{gateLines}
 use Rattle.text.specs.Text.{spell, decimal}
 
 pub first-listing : FirstListing
-unfolding spell decimal gateLines orderConstants listed member primes sum readConditions total addAll conditionBy orderSegment digitsFrom ascending powerGate laterTerms halves joinLowest multiply least flog clog counted count interpret residue
+unfolding spell decimal gateLines orderConstants listed member primes sum readConditions total addAll conditionBy orderSegment digitsFrom ascending powerGate laterSum halves joinLowest multiply least flog clog counted count interpret residue
 first-listing = refl

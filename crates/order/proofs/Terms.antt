@@ -12,8 +12,9 @@ use Rattle.field.specs.Logarithm.{clog}
 use Rattle.field.specs.Polynomials.{everySecond, orderExponents, orderConstant, orderConstants}
 use Rattle.field.proofs.Logarithm.{clog-mono}
 use Rattle.field.proofs.OrderConstants.{length-second, second-at}
-use Rattle.circuit.specs.Gate.{Scale, Add}
-use Rattle.comparison.specs.OrderDigit.{half, powerGate, laterTerms, terms}
+use Rattle.circuit.specs.Gate.{Gate, Scale, Add}
+use Rattle.circuit.specs.Sums.{laterSum}
+use Rattle.comparison.specs.OrderDigit.{half, powerGate, term, terms}
 use Rattle.comparison.proofs.OrderDigit.{exponents-length}
 use Rattle.comparison.proofs.Powers.{gate-low, gate-high}
 use Rattle.order.specs.Prepared.{Constants}
@@ -70,8 +71,11 @@ place-from p z i = go (decLe i (half p))
     go (yes l) = omega (arith, gate-low p z i l, gate-low p 0 i l)
     go (no n) = omega (arith, gate-high p z i (lt-of-not-le n), gate-high p 0 i (lt-of-not-le n))
 
-pub terms-first : (p z k : ℕ) → 3 ≤ p
-    → terms p z k (orderExponents p) ≡ Scale z (orderConstant p 1) ∷ laterTerms p z (k + 1) k (exponentsFrom p 3)
+-- the terms of the exponents from i on: from gate number k on, over the gate of the sum so far
+abbrev pub termsFrom : ℕ → ℕ → ℕ → ℕ → ℕ → List Gate
+termsFrom p z k sum i = laterSum k sum (map (term p z) (exponentsFrom p i))
+
+pub terms-first : (p z k : ℕ) → 3 ≤ p → terms p z k (orderExponents p) ≡ Scale z (orderConstant p 1) ∷ termsFrom p z (k + 1) k 3
 unfolding orderExponents everySecond
 terms-first p z k three =
     let e : (p - 1) / 2 ≡ suc ((p - 3) / 2) = omega arith in
@@ -80,9 +84,8 @@ terms-first p z k three =
     rw (e, next, gate)
 
 pub later-cons : (p z k sum i : ℕ) → i < p - 1
-    → laterTerms p z k sum (exponentsFrom p i)
-    ≡ Scale (z + powerGate p 0 i) (orderConstant p i) ∷ Add sum k ∷ laterTerms p z (k + 2) (k + 1) (exponentsFrom p (i + 2))
-unfolding laterTerms everySecond
+    → termsFrom p z k sum i ≡ Scale (z + powerGate p 0 i) (orderConstant p i) ∷ Add sum k ∷ termsFrom p z (k + 2) (k + 1) (i + 2)
+unfolding laterSum everySecond
 later-cons p z k sum i l =
     let e : (p - i) / 2 ≡ suc ((p - (i + 2)) / 2) = omega arith in
     let two : i + 2 ≡ suc (suc i) = omega arith in
@@ -91,8 +94,8 @@ later-cons p z k sum i l =
     rw (e, two, next, after, place-from p z i)
 
 pub later-top : (p z k sum i : ℕ) → p - 1 ≤ i
-    → laterTerms p z k sum (exponentsFrom p i) ≡ Scale (z + powerGate p 0 (p - 1)) (orderConstant p (p - 1)) ∷ Add sum k ∷ []
-unfolding laterTerms everySecond
+    → termsFrom p z k sum i ≡ Scale (z + powerGate p 0 (p - 1)) (orderConstant p (p - 1)) ∷ Add sum k ∷ []
+unfolding laterSum everySecond
 later-top p z k sum i l =
     let e : (p - i) / 2 ≡ 0 = omega arith in
     rw (e, place-from p z (p - 1))

@@ -5,16 +5,17 @@ use Rattle.field.specs.Polynomials.{orderExponents}
 use Rattle.field.specs.Primes.{member, primes, listed}
 use Rattle.field.specs.Sum.{total}
 use Rattle.circuit.specs.ProductTree.{multiply}
+use Rattle.circuit.specs.Sums.{laterSum}
 use Rattle.comparison.specs.Bits.{ones}
 use Rattle.comparison.specs.Digits.{digitsFrom}
 use Rattle.comparison.specs.EqualityDigit.{chain}
 use Rattle.comparison.specs.Joining.{halves, joinLowest}
-use Rattle.comparison.specs.OrderDigit.{ascending, laterTerms}
+use Rattle.comparison.specs.OrderDigit.{ascending}
 use Rattle.comparison.specs.Writing.{equalityFactors, orderSegment, equalitySegment, conditionBy}
 use Rattle.query.specs.BuildOrder.{BuildOrder}
 use Rattle.query.specs.Reading.{readConditions}
 use Rattle.query.specs.Whole.{addAll}
 
 pub build-order : BuildOrder
-unfolding listed member primes readConditions total addAll conditionBy orderSegment equalitySegment digitsFrom ascending orderExponents laterTerms chain ones halves joinLowest equalityFactors multiply
+unfolding listed member primes readConditions total addAll conditionBy orderSegment equalitySegment digitsFrom ascending orderExponents laterSum chain ones halves joinLowest equalityFactors multiply
 build-order = refl

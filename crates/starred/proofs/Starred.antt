@@ -11,21 +11,22 @@ use Rattle.circuit.specs.Count.{counted, count}
 use Rattle.circuit.specs.Meaning.{interpret}
 use Rattle.circuit.specs.ProductTree.{least, multiply}
 use Rattle.circuit.specs.Reading.{readGates}
+use Rattle.circuit.specs.Sums.{laterSum}
 use Rattle.circuit.specs.Table.{gatesBytes}
 use Rattle.comparison.specs.Bits.{ones}
 use Rattle.comparison.specs.Digits.{digitsFrom}
 use Rattle.comparison.specs.EqualityDigit.{chain}
 use Rattle.comparison.specs.Joining.{halves, joinLowest}
-use Rattle.comparison.specs.OrderDigit.{ascending, powerGate, laterTerms}
+use Rattle.comparison.specs.OrderDigit.{ascending, powerGate}
 use Rattle.comparison.specs.Writing.{equalityFactors, orderSegment, equalitySegment, conditionBy}
 use Rattle.query.specs.Reading.{readConditions}
 use Rattle.query.specs.Whole.{addAll}
 use Rattle.starred.specs.Starred.{starred, StarredCases, FullRangeRun}
 
 pub starred-cases : StarredCases
-unfolding starred orderConstants listed member primes number sum allBelow digitsOf readConditions total addAll conditionBy orderSegment equalitySegment digitsFrom ascending powerGate laterTerms chain ones halves joinLowest equalityFactors multiply least flog clog counted count interpret gatesBytes readGates residue
+unfolding starred orderConstants listed member primes number sum allBelow digitsOf readConditions total addAll conditionBy orderSegment equalitySegment digitsFrom ascending powerGate laterSum chain ones halves joinLowest equalityFactors multiply least flog clog counted count interpret gatesBytes readGates residue
 starred-cases = refl
 
 pub full-range-run : FullRangeRun
-unfolding orderConstants listed member primes number sum allBelow digitsOf readConditions total addAll conditionBy orderSegment equalitySegment digitsFrom ascending powerGate laterTerms chain ones halves joinLowest equalityFactors multiply least flog clog counted count interpret gatesBytes readGates residue
+unfolding orderConstants listed member primes number sum allBelow digitsOf readConditions total addAll conditionBy orderSegment equalitySegment digitsFrom ascending powerGate laterSum chain ones halves joinLowest equalityFactors multiply least flog clog counted count interpret gatesBytes readGates residue
 full-range-run = refl

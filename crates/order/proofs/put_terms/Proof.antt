@@ -10,14 +10,14 @@ use borrow.Author.Needs.{needs}
 use lib.ListN.{length}
 use Rattle.field.specs.Logarithm.{clog}
 use Rattle.circuit.specs.Gate.{Gate, Scale, Add}
-use Rattle.comparison.specs.OrderDigit.{laterTerms, powerGate}
+use Rattle.comparison.specs.OrderDigit.{powerGate}
 use Rattle.comparison.proofs.Powers.{gate-low}
 use Rattle.writer.specs.declared.Written.{Written}
 use Rattle.writer.specs.Remains.{Remains}
 use Rattle.writer.proofs.Remains.{remains-all, remains-as, remains-then}
 use Rattle.writer.proofs.Writing.{same-gates, then}
 use Rattle.powers.proofs.Powers.{place-within}
-use Rattle.order.proofs.Terms.{exponentsFrom, constants-long, constant-odd, constant-top, terms-first, later-cons, later-top, deeper-power}
+use Rattle.order.proofs.Terms.{termsFrom, constants-long, constant-odd, constant-top, terms-first, later-cons, later-top, deeper-power}
 use Rattle.order.proofs.put_terms.Statement.{statement}
 use Rattle.order.proofs.put_terms.Tie as tie
 
@@ -34,8 +34,8 @@ Inv-loop table₀ z p constants depths sum₀ i₀ table sum i =
     ((i % 2 ≡ 1) × (3 ≤ i) × (i ≤ p) × (sum .pen .next + 3 ≡ sum₀ .pen .next + i) × (sum .pen .products ≤ sum .pen .next)
     × (sum .pen .squares ≤ sum .pen .next) × (length table ≡ length table₀) × (sum .node .gate + 1 ≡ sum .pen .next))
     × (sum .node .depth ≡ clog (i - 2))
-    × Remains table₀ (sum₀ .pen) (laterTerms p z (sum₀ .pen .next) (sum₀ .node .gate) (exponentsFrom p 3)) table (sum .pen)
-    (laterTerms p z (sum .pen .next) (sum .node .gate) (exponentsFrom p i))
+    × Remains table₀ (sum₀ .pen) (termsFrom p z (sum₀ .pen .next) (sum₀ .node .gate) 3) table (sum .pen)
+    (termsFrom p z (sum .pen .next) (sum .node .gate) i)
 
 abbrev μ-loop : tie.MeasureT-loop
 μ-loop table₀ z p constants depths sum₀ i₀ table sum i = p - i
@@ -125,7 +125,7 @@ loop-again c =
     let split = later-cons p z (sum .pen .next) (sum .node .gate) i (omega arith) in
     let constant = constant-odd p i (s .args .constants .now) (s .pre .1 .scaled) (omega arith) (omega arith) in
     let term = ap₂ (addedTerm sum) (power .power-at .ensures .0) constant in
-    let onward = ap₂ (λ (k sum : ℕ). laterTerms p z k sum (exponentsFrom p (i + 2))) (sym (w .1 .0 .0)) (sym (w .1 .1 .0)) in (
+    let onward = ap₂ (λ (k sum : ℕ). termsFrom p z k sum (i + 2)) (sym (w .1 .0 .0)) (sym (w .1 .1 .0)) in (
       omega arith,
       rw back (w .1 .1 .1 ∙ deep),
       remains-as onward (remains-then (remains-as split (inv .2)) (same-gates term (w .0))),
