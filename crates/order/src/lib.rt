@@ -5,11 +5,11 @@ use writer::Slots;
 use writer::Written;
 ghost use mathlib.Core.Path.{_≡_};
 ghost use mathlib.Core.List.{[], _∷_};
-ghost use Prim.Native.Nat.{_+_, _-_, _≤_, _<_, max};
+ghost use Prim.Native.Nat.{_+_, _-_, _≤_, _<_};
 ghost use lib.ListN.{length};
 ghost use Rattle.field.specs.Polynomials.{orderExponents};
 ghost use Rattle.digits.specs.Number.{mostDigits};
-ghost use Rattle.circuit.specs.Gate.{Scale, Add, Flip};
+ghost use Rattle.circuit.specs.Gate.{Flip};
 ghost use Rattle.circuit.specs.Table.{mostGates};
 ghost use Rattle.comparison.specs.Condition.{HasSlots};
 ghost use Rattle.comparison.specs.Digits.{unlessLowest, orderDigit};
@@ -30,34 +30,6 @@ struct Tested {
     equal: Node,
 }
 
-// A term: the SCALE of a power by its constant.
-fn put_term(table: &mut [u8], pen: Pen, power: u16, constant: u8) -> Pen
-    requires { ⌜ Room (now table) pen 1 ⌝ }
-    ensures wrote { λ r. ⌜ Wrote (now (table .entry)) pen (Scale power constant ∷ []) (now (table .exit)) r ⌝ }
-    ensures moves { λ r. ⌜ Moved pen 1 r ⌝ }
-{
-    writer::put_scale(table, pen, power, constant as u16)
-}
-
-// A term, and the sum with it.
-fn add_term(table: &mut [u8], pen: Pen, sum: Node, power: Node, constant: u8) -> Written
-    requires { ⌜ Room (now table) pen 2 ⌝ }
-    ensures wrote { λ r. ⌜ Wrote (now (table .entry)) pen (Scale (power .gate) constant ∷ Add (sum .gate) (pen .next) ∷ []) (now (table .exit)) (r .pen) ⌝ }
-    ensures moves { λ r. ⌜ Moved pen 2 (r .pen) ⌝ }
-    ensures deepens { λ r. ⌜ (r .node .gate ≡ pen .next + 1) × (r .node .depth ≡ max (sum .depth) (power .depth)) ⌝ }
-{
-    let scaled = put_term(table, pen, power.gate, constant);
-    let gate = scaled.next;
-    let added = writer::put_add(table, scaled, sum.gate, pen.next);
-    Written {
-        pen: added,
-        node: Node {
-            gate,
-            depth: answer::deeper(sum.depth, power.depth),
-        },
-    }
-}
-
 // The terms: a SCALE of each power that has a constant, and their sum.
 fn put_terms(
     table: &mut [u8],
@@ -73,7 +45,7 @@ fn put_terms(
     ensures moves { λ r. ⌜ Moved pen p (r .pen) ⌝ }
     ensures deepens { λ r. ⌜ (r .node .gate ≡ pen .next + (p - 1)) × (r .node .depth ≡ digitDepth p) ⌝ }
 {
-    let first = put_term(table, pen, z, constants[0]);
+    let first = writer::put_term(table, pen, z, constants[0]);
     let mut sum = Written {
         pen: first,
         node: Node {
@@ -84,11 +56,11 @@ fn put_terms(
     let mut i: u16 = 3;
     while i < p - 1 {
         let power = powers::power_at(z, p, i, depths);
-        sum = add_term(table, sum.pen, sum.node, power, constants[(i / 2) as usize]);
+        sum = writer::add_term(table, sum.pen, sum.node, power, constants[(i / 2) as usize]);
         i += 2;
     }
     let top = powers::power_at(z, p, p - 1, depths);
-    add_term(
+    writer::add_term(
         table,
         sum.pen,
         sum.node,

@@ -4,7 +4,7 @@ use records::HEAD_MARK;
 use records::RECORD;
 ghost use mathlib.Core.Path.{_≡_};
 ghost use mathlib.Core.List.{[], _∷_};
-ghost use Prim.Native.Nat.{_+_, _*_, _≤_, _<_};
+ghost use Prim.Native.Nat.{_+_, _*_, _≤_, _<_, max};
 ghost use lib.ListN.{length};
 ghost use lib.Seq.{sets};
 ghost use Rattle.circuit.specs.Count.{count as countOf, isProduct, isSquare};
@@ -198,6 +198,34 @@ pub fn multiply(table: &mut [u8], pen: Pen, a: Node, b: Node) -> Written
     Written {
         pen: put_mul(table, pen, a.gate, b.gate),
         node: Node { gate, depth },
+    }
+}
+
+// A term of a sum: the SCALE of a gate by a constant.
+pub fn put_term(table: &mut [u8], pen: Pen, scaled: u16, constant: u8) -> Pen
+    requires { ⌜ Room (now table) pen 1 ⌝ }
+    ensures wrote { λ r. ⌜ Wrote (now (table .entry)) pen (Scale scaled constant ∷ []) (now (table .exit)) r ⌝ }
+    ensures moves { λ r. ⌜ Moved pen 1 r ⌝ }
+{
+    put_scale(table, pen, scaled, constant as u16)
+}
+
+// A term, and the sum with it.
+pub fn add_term(table: &mut [u8], pen: Pen, sum: Node, scaled: Node, constant: u8) -> Written
+    requires { ⌜ Room (now table) pen 2 ⌝ }
+    ensures wrote { λ r. ⌜ Wrote (now (table .entry)) pen (Scale (scaled .gate) constant ∷ Add (sum .gate) (pen .next) ∷ []) (now (table .exit)) (r .pen) ⌝ }
+    ensures moves { λ r. ⌜ Moved pen 2 (r .pen) ⌝ }
+    ensures deepens { λ r. ⌜ (r .node .gate ≡ pen .next + 1) × (r .node .depth ≡ max (sum .depth) (scaled .depth)) ⌝ }
+{
+    let term = put_term(table, pen, scaled.gate, constant);
+    let gate = term.next;
+    let added = put_add(table, term, sum.gate, pen.next);
+    Written {
+        pen: added,
+        node: Node {
+            gate,
+            depth: answer::deeper(sum.depth, scaled.depth),
+        },
     }
 }
 

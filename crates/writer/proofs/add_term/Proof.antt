@@ -1,10 +1,10 @@
--- `order::add_term` meets its contract: two records, one after the other; a sum is as deep as its deeper operand.
+-- `writer::add_term` meets its contract: two records, one after the other; a sum is as deep as its deeper operand.
 -- Assumes nothing.
 use native.Mathlib.Omega.{arith}
 use Rattle.writer.proofs.Writing.{then}
 use borrow.Author.Needs.{needs}
-use Rattle.order.proofs.add_term.Statement.{statement}
-use Rattle.order.proofs.add_term.Tie as tie
+use Rattle.writer.proofs.add_term.Statement.{statement}
+use Rattle.writer.proofs.add_term.Tie as tie
 
 put-term-requires : tie.Need-put-term-requires
 put-term-requires c κs = search needs
@@ -21,8 +21,8 @@ same-length c = search needs
 returns : tie.Need-returns
 returns c =
     let added = c .before .before .before in
-    let scaled = added .before .before .before .before in
-    (then (scaled .put-term .ensures .0) (added .put-add .ensures .0), (omega (arith, added, scaled), omega (arith, added, scaled)))
+    let term = added .before .before .before .before in
+    (then (term .put-term .ensures .0) (added .put-add .ensures .0), (omega (arith, added, term), omega (arith, added, term)))
 
 pub add-term-spec : {M : Type 1} → statement M
 add-term-spec =
