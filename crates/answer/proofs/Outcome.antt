@@ -51,7 +51,7 @@ pub record Refuses {A : Type 0} (P : ℕ → Type 0) (answer : Answer A) : Type 
 pub accepted-refuses : {A : Type 0} {P : ℕ → Type 0} {a : A} → Refuses P (accepted a)
 accepted-refuses = record { number = λ k r. absurd (refused≢accepted (sym r)) }
 
-refused-refuses : {A : Type 0} {P : ℕ → Type 0} {m : ℕ} → P m → Refuses {A = A} P (refused m)
+pub refused-refuses : {A : Type 0} {P : ℕ → Type 0} {m : ℕ} → P m → Refuses {A = A} P (refused m)
 refused-refuses {A} {P} {m} known = record { number = λ k r. let same : m ≡ k = cc in subst P same known }
 
 pub refuse-refuses : {A : Type 0} {P : ℕ → Type 0} {later : Answer A} (test : Bool) (m : ℕ) → P m → Refuses P later

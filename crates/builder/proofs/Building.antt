@@ -4,19 +4,19 @@
 use mathlib.Core.Path.{_≡_, refl, sym, ap, _∙_}
 use mathlib.Core.Bool.{true}
 use mathlib.Core.List.{List, [], _∷_}
-use Prim.Native.Nat.{ℕ, _+_, _-_, _*_, _/_, _≤_, _<_}
+use Prim.Native.Nat.{ℕ, _+_, _-_, _*_, _≤_, _<_}
 use native.Mathlib.Omega.{arith}
 use native.Mathlib.Nat.{zero-add}
 use borrow.Author.Tests.{lt-ltb}
 use lib.Dec.{ltb}
-use lib.ListN.{length, drop, length-append, length-drop}
+use lib.ListN.{length, take, length-append}
 use lib.Seq.{sets}
 use Rattle.answer.specs.Outcome.{refused, accepted}
 use Rattle.answer.specs.Report.{Report}
-use Rattle.answer.proofs.Outcome.{answered, was-refused, accepted-same}
+use Rattle.answer.proofs.Outcome.{was-refused, accepted-same}
 use Rattle.field.specs.Logarithm.{clog}
-use Rattle.digits.specs.Number.{mostDigits}
 use Rattle.field.proofs.Logarithm.{clog-is-ceiling}
+use Rattle.digits.specs.Number.{mostDigits}
 use Rattle.circuit.specs.Depth.{depth}
 use Rattle.circuit.specs.Every.{Every}
 use Rattle.circuit.specs.ProductTree.{productTree}
@@ -27,30 +27,29 @@ use Rattle.circuit.proofs.Bounds.{counts-below}
 use Rattle.circuit.proofs.Count.{all-counted}
 use Rattle.circuit.proofs.Every.{every-map, every-append}
 use Rattle.circuit.proofs.ProductTree.{multiply-length}
-use Rattle.comparison.specs.Condition.{Condition, HasSlots}
-use Rattle.comparison.specs.OrderDigit.{powerCount}
+use Rattle.comparison.specs.Condition.{Condition}
 use Rattle.comparison.specs.Tests.{baseTests}
 use Rattle.comparison.specs.Writing.{conditionSegment}
 use Rattle.comparison.proofs.Condition.{condition-depth}
-use Rattle.query.specs.Card.{Card, mostConditions, slotsOf}
+use Rattle.query.specs.Card.{Card}
 use Rattle.query.specs.Outcomes.{tableRoom, building, forecasting}
-use Rattle.query.specs.Reading.{readCard, readConditions}
+use Rattle.query.specs.Reading.{readCard}
 use Rattle.query.specs.Whole.{Draft, begin, add, addAll, filled, tableOf}
 use Rattle.query.proofs.Building.{built}
 use Rattle.query.proofs.CardFacts.{Accepted, accepted-card}
 use Rattle.query.proofs.Promises.{exact-size, card-output}
 use Rattle.query.proofs.Reading.{reads}
 use Rattle.query.proofs.Whole.{all-outputs}
-use Rattle.card.specs.Parts.{Summary, summary, readSummary}
+use Rattle.card.specs.declared.CardHead.{CardHead}
+use Rattle.card.specs.Conditions.{ReadAs, conditionsOf}
+use Rattle.card.specs.Parts.{Summary, summary, headIs, readSummary}
+use Rattle.card.proofs.ReadAs.{Known, known-as}
 use Rattle.writer.specs.declared.Pen.{Pen}
-use Rattle.constants.specs.Constants.{mostConstants}
-use Rattle.powers.specs.Powers.{mostPowers}
-use Rattle.tree.specs.Factors.{Shallow}
-use Rattle.writer.specs.Modulus.{Modulus}
+use Rattle.tree.specs.Factors.{Shallow, nodes}
 use Rattle.writer.specs.Pen.{fresh, Wrote}
 use Rattle.writer.proofs.Writing.{same-gates, then, whole}
 use Rattle.builder.specs.Buildable.{Buildable, reportIs}
-use Rattle.builder.specs.Conditions.{conditionsOf, drafted, Ready, Readable, Writable}
+use Rattle.builder.specs.Conditions.{drafted}
 
 -- above the depth of any condition: 8 for p - 1 below 256, and 8 for its digits
 abbrev mostLevels : ℕ
@@ -65,26 +64,6 @@ module _ (bytes : List ℕ) (card : Card) (e : readCard bytes ≡ accepted card)
 
   known : Accepted card
   known = accepted-card bytes card e
-
-  -- ---- the records
-
-  read : readConditions 0 (length cs) (drop 6 bytes) ≡ accepted cs
-  read = let r = reads bytes card e in rw (r .count) (r .conditions)
-
-  pub conditions-are : conditionsOf (length cs) (drop 6 bytes) ≡ cs
-  conditions-are = rw read
-
-  pub readable : Readable (length cs) (drop 6 bytes)
-  readable =
-      let r = reads bytes card e in
-      record {
-        long = rw length-drop (omega (arith, r .size, r .count));
-        few = known .count .1;
-        reads = rw conditions-are read;
-        each = rw conditions-are
-            (every-map (λ (c : Condition) (h : HasSlots (slotsOf cs) (slotsOf cs) c). (h .0, omega (arith, h, known .slots), omega (arith, h, known .slots)))
-            cs (known .each));
-      }
 
   -- ---- the gates
 
@@ -104,8 +83,12 @@ module _ (bytes : List ℕ) (card : Card) (e : readCard bytes ≡ accepted card)
   abbrev Flat : segment.Node → Type 0
   Flat f = f .depth ≤ mostLevels
 
-  -- no condition is deeper than that
-  few-levels : (earlier : Draft) (ds : List Condition) → Every Flat (earlier .outputs) → Every (λ (c : Condition). HasSlots mostDigits mostDigits c) ds
+  -- a condition has 1 to 16 digits
+  abbrev Counted : Condition → Type 0
+  Counted c = (1 ≤ c .digits) × (c .digits ≤ mostDigits)
+
+  -- so it is no deeper than that
+  few-levels : (earlier : Draft) (ds : List Condition) → Every Flat (earlier .outputs) → Every Counted ds
       → Every Flat (addAll (baseTests p) p earlier ds .outputs)
   unfolding addAll
   few-levels earlier [] flat h = flat
@@ -120,7 +103,7 @@ module _ (bytes : List ℕ) (card : Card) (e : readCard bytes ≡ accepted card)
   pub shallow : Shallow (length cs) (draft .outputs)
   shallow =
       every-map (λ (f : segment.Node) h. omega (arith, h, known .count .1)) (draft .outputs)
-      (few-levels begin cs tt (rw conditions-are at (readable .each)))
+      (few-levels begin cs tt (every-map (λ (c : Condition) h. (h .0, omega (arith, h, known .sides))) cs (known .each)))
 
   -- ---- what Build answers and leaves
 
@@ -148,105 +131,86 @@ module _ (bytes : List ℕ) (card : Card) (e : readCard bytes ≡ accepted card)
     pub leaves : table₃ ≡ building bytes lent .lent
     leaves = rw (built bytes lent card e room) (wrote .bytes ∙ whole (tableOf card) lent room)
 
+-- outputs listed in two lists, by an equal count
+pub as-listed : {m n : ℕ} (gates depths : List ℕ) {outputs : List segment.Node} → m ≡ n → nodes (take n gates) (take n depths) ≡ outputs
+    → nodes (take m gates) (take m depths) ≡ outputs
+as-listed gates depths same are = ap (λ (k : ℕ). nodes (take k gates) (take k depths)) same ∙ are
+
 -- ---- the same in the terms of the code, which holds what the card says and the gate count
 
 module _ {bytes lent : List ℕ} {said : Summary} {count : ℕ} (b : Buildable bytes lent said count) where
   abbrev pub headOf : Head
   headOf = record { prime = said .prime; weight = said .weight; slots = said .slots }
 
-  pub card-long : 6 ≤ length bytes
-  card-long = omega (arith, reads bytes (b .card) (b .reads) .size)
+  -- the card was read so
+  pub read-so : accepted said ≡ readSummary bytes
+  read-so = rw (b .reads, b .says)
 
-  -- the prime of a card, and the lists that are long enough for any
-  pub prime-facts : Modulus (said .prime) × (said .prime / 2 + 1 ≤ mostConstants) × (powerCount (said .prime) < mostPowers)
-  prime-facts =
-      let known = accepted-card bytes (b .card) (b .reads) .prime in
-      rw (b .says) ((known .low, known .odd, omega (arith, known .high)), omega (arith, known .high), omega (arith, known .high))
+  abbrev draftSaid : Draft
+  draftSaid = drafted (said .prime) (conditionsOf bytes)
 
-  -- of n records
-  module _ {n : ℕ} {records : List ℕ} (all : n ≡ said .count) (lent-are : records ≡ drop 6 bytes) where
-    abbrev draftSaid : Draft
-    draftSaid = drafted (said .prime) (conditionsOf n records)
+  is-filled : draftSaid ≡ filled (b .card)
+  is-filled = rw (b .says, b .reads)
 
-    is-filled : draftSaid ≡ filled (b .card)
-    is-filled = rw (all, lent-are, b .says, conditions-are bytes (b .card) (b .reads))
+  -- room for the conditions, and for the product tree after them
+  pub room-said : (8 * (length (draftSaid .gates) + (said .count - 1) + 1) ≤ length lent)
+      × (length (draftSaid .gates) + (said .count - 1) ≤ mostGates)
+  room-said =
+      let s = sizes bytes (b .card) (b .reads) in
+      let same = ap (λ (d : Draft). length (d .gates)) is-filled in
+      let conditions = ap (λ (t : Summary). t .count) (b .says) in
+      (omega (arith, s, same, conditions, b .room), omega (arith, s, same, conditions))
 
-    pub count-facts : (1 ≤ n) × (n ≤ mostConditions)
-    count-facts = rw (all, b .says) (accepted-card bytes (b .card) (b .reads) .count)
+  -- ---- the outputs, and the product tree over them
 
-    pub readable-said : Readable n records
-    readable-said = rw (all, lent-are, b .says) (readable bytes (b .card) (b .reads))
+  module _ {factors : List segment.Node} (are : factors ≡ draftSaid .outputs) where
+    factors-are : factors ≡ filled (b .card) .outputs
+    factors-are = are ∙ ap (λ (d : Draft). d .outputs) is-filled
 
-    -- room for the conditions, and for the product tree after them
-    pub room-said : (8 * (length (draftSaid .gates) + (n - 1) + 1) ≤ length lent) × (length (draftSaid .gates) + (n - 1) ≤ mostGates)
-    room-said =
-        let s = sizes bytes (b .card) (b .reads) in
-        let same = ap (λ (d : Draft). length (d .gates)) is-filled in
-        let conditions = all ∙ ap (λ (t : Summary). t .count) (b .says) in
-        (omega (arith, s, same, conditions, b .room), omega (arith, s, same, conditions))
+    pub shallow-said : {n : ℕ} → n ≡ said .count → Shallow n factors
+    shallow-said many = rw (factors-are, many, b .says) (shallow bytes (b .card) (b .reads))
 
-    pub writable-said : {table constants powers gates depths : List ℕ} → length table ≡ length lent
-        → Ready (said .prime) (conditionsOf n records) constants powers → n ≤ length gates → n ≤ length depths
-        → Writable n records (said .prime) table constants powers gates depths
-    writable-said same ready enough too = record {
-      readable = readable-said;
-      modulus = prime-facts .0;
-      room = omega (arith, room-said, same);
-      ready = ready;
-      outputs = (enough, too);
-    }
+    module _ {table₁ table₂ table₃ : List ℕ} {pen pen₃ : Pen} {deep : ℕ} (head : table₁ ≡ sets lent 0 (headBytes headOf count))
+        (conditions : Wrote table₁ fresh (draftSaid .gates) table₂ pen)
+        (tree : Wrote table₂ pen (productTree (pen .next) factors .gates) table₃ pen₃)
+        (output : deep ≡ productTree (pen .next) factors .output .depth) where
+      first : Wrote (sets lent 0 (headBytes (tableOf (b .card) .head) (length (tableOf (b .card) .gates)))) fresh
+          (filled (b .card) .gates) table₂ pen
+      first = rw (head, b .says, b .gates) at (same-gates (ap (λ (d : Draft). d .gates) is-filled) conditions)
 
-    -- ---- the outputs, and the product tree over them
+      second : Wrote table₂ pen (productTree (pen .next) (filled (b .card) .outputs) .gates) table₃ pen₃
+      second = same-gates (ap (λ (fs : List segment.Node). productTree (pen .next) fs .gates) factors-are) tree
 
-    module _ {factors : List segment.Node} (are : factors ≡ draftSaid .outputs) where
-      factors-are : factors ≡ filled (b .card) .outputs
-      factors-are = are ∙ ap (λ (d : Draft). d .outputs) is-filled
+      third : deep ≡ productTree (pen .next) (filled (b .card) .outputs) .output .depth
+      third = output ∙ ap (λ (fs : List segment.Node). productTree (pen .next) fs .output .depth) factors-are
 
-      pub shallow-said : Shallow n factors
-      shallow-said = rw (factors-are, all, b .says) (shallow bytes (b .card) (b .reads))
+      pub answers-said : accepted (reportIs pen₃ deep (said .weight)) ≡ building bytes lent .answer
+      answers-said = rw (b .says) (answers bytes (b .card) (b .reads) lent table₂ table₃ pen pen₃ deep (b .room) first second third)
 
-      module _ {table₁ table₂ table₃ : List ℕ} {pen pen₃ : Pen} {deep : ℕ} (head : table₁ ≡ sets lent 0 (headBytes headOf count))
-          (conditions : Wrote table₁ fresh (draftSaid .gates) table₂ pen)
-          (tree : Wrote table₂ pen (productTree (pen .next) factors .gates) table₃ pen₃)
-          (output : deep ≡ productTree (pen .next) factors .output .depth) where
-        first : Wrote (sets lent 0 (headBytes (tableOf (b .card) .head) (length (tableOf (b .card) .gates)))) fresh
-            (filled (b .card) .gates) table₂ pen
-        first = rw (head, b .says, b .gates) at (same-gates (ap (λ (d : Draft). d .gates) is-filled) conditions)
+      pub leaves-said : table₃ ≡ building bytes lent .lent
+      leaves-said = leaves bytes (b .card) (b .reads) lent table₂ table₃ pen pen₃ deep (b .room) first second third
 
-        second : Wrote table₂ pen (productTree (pen .next) (filled (b .card) .outputs) .gates) table₃ pen₃
-        second = same-gates (ap (λ (fs : List segment.Node). productTree (pen .next) fs .gates) factors-are) tree
-
-        third : deep ≡ productTree (pen .next) (filled (b .card) .outputs) .output .depth
-        third = output ∙ ap (λ (fs : List segment.Node). productTree (pen .next) fs .output .depth) factors-are
-
-        pub answers-said : accepted (reportIs pen₃ deep (said .weight)) ≡ building bytes lent .answer
-        answers-said = rw (b .says) (answers bytes (b .card) (b .reads) lent table₂ table₃ pen pen₃ deep (b .room) first second third)
-
-        pub leaves-said : table₃ ≡ building bytes lent .lent
-        leaves-said = leaves bytes (b .card) (b .reads) lent table₂ table₃ pen pen₃ deep (b .room) first second third
-
-        -- a gate is a product, a square or neither
-        pub counts-said : pen₃ .products + pen₃ .squares ≤ mostGates
-        counts-said =
-            let w = wrote bytes (b .card) (b .reads) lent table₂ table₃ pen pen₃ deep (b .room) first second third in
-            omega (arith, w .products, w .squares, counts-below (tableOf (b .card) .gates), exact-size bytes (b .card) (b .reads) .1)
+      -- a gate is a product, a square or neither
+      pub counts-said : pen₃ .products + pen₃ .squares ≤ mostGates
+      counts-said =
+          let w = wrote bytes (b .card) (b .reads) lent table₂ table₃ pen pen₃ deep (b .room) first second third in
+          omega (arith, w .products, w .squares, counts-below (tableOf (b .card) .gates), exact-size bytes (b .card) (b .reads) .1)
 
 -- ---- room
 
-module _ (bytes lent : List ℕ) (said : Summary) (told : Report) (s : accepted said ≡ readSummary bytes) (f : accepted told ≡ forecasting bytes) where
-  -- the card that was read
-  found : (card : Card) × (readCard bytes ≡ accepted card) × (accepted (summary card) ≡ accepted said)
-  found = answered (readCard bytes) (λ card. accepted (summary card)) (sym s)
+module _ (bytes lent : List ℕ) (head : CardHead) (told : Report) (e : ReadAs bytes head) (f : accepted told ≡ forecasting bytes) where
+  abbrev read : Known bytes head
+  read = known-as bytes head e
 
   -- the gate count that was forecast is that of its table
-  gates-told : told .gates ≡ length (tableOf (found .0) .gates)
-  gates-told = ap (λ (r : Report). r .gates) (accepted-same (rw (found .1) at f))
+  gates-told : told .gates ≡ length (tableOf (read .card) .gates)
+  gates-told = ap (λ (r : Report). r .gates) (accepted-same (rw (read .reads) at f))
 
-  pub buildable : 8 * (told .gates + 1) ≤ length lent → Buildable bytes lent said (told .gates)
+  pub buildable : 8 * (told .gates + 1) ≤ length lent → Buildable bytes lent (headIs head) (told .gates)
   buildable room = record {
-    card = found .0;
-    reads = found .1;
-    says = sym (accepted-same (found .2));
+    card = read .card;
+    reads = read .reads;
+    says = read .says;
     gates = gates-told;
     room = omega (arith, room, gates-told);
   }
@@ -254,9 +218,9 @@ module _ (bytes lent : List ℕ) (said : Summary) (told : Report) (s : accepted 
   -- "last 11, table lent under 8(G+1) bytes"
   pub no-room : length lent < 8 * (told .gates + 1) → (refused 11 ≡ building bytes lent .answer) × (lent ≡ building bytes lent .lent)
   no-room short =
-      let less : length lent < tableRoom (tableOf (found .0)) = omega (arith, short, gates-told) in
-      let under : ltb (length lent) (tableRoom (tableOf (found .0))) ≡ true = lt-ltb _ _ less in
-      rw (found .1, under) (refl, refl)
+      let less : length lent < tableRoom (tableOf (read .card)) = omega (arith, short, gates-told) in
+      let under : ltb (length lent) (tableRoom (tableOf (read .card))) ≡ true = lt-ltb _ _ less in
+      rw (read .reads, under) (refl, refl)
 
 -- a card that is refused leaves the lent bytes as they are
 pub refused-too : (bytes lent : List ℕ) (number : ℕ) → refused number ≡ readSummary bytes

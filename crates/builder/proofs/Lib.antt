@@ -1,5 +1,5 @@
 -- Laws of building.
-pub mod Rest
+pub mod Prime
 pub mod Orders
 pub mod Adding
 pub mod Building

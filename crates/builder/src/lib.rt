@@ -5,99 +5,93 @@ use answer::Report;
 use answer::Reported;
 use card::CardHead;
 use card::CardRead;
-use card::ConditionRead;
 use condition::put_condition;
 use writer::Pen;
 use writer::Slots;
 use writer::Written;
 ghost use mathlib.Core.Path.{_≡_};
-ghost use Prim.Native.Nat.{_+_, _*_, _/_, _≤_, _<_};
+ghost use Prim.Native.Nat.{_+_, _≤_};
 ghost use lib.ListN.{length, take};
 ghost use Rattle.answer.specs.Outcome.{accepted};
 ghost use Rattle.answer.specs.Report.{reportAnswer};
 ghost use Rattle.answer.specs.declared.Reported.the-variants.{Success};
 ghost use Rattle.circuit.specs.Table.{mostGates};
-ghost use Rattle.comparison.specs.OrderDigit.{powerCount};
+ghost use Rattle.constants.specs.Constants.{mostConstants};
+ghost use Rattle.powers.specs.Powers.{mostPowers};
 ghost use Rattle.tree.specs.Factors.{nodes};
-ghost use Rattle.writer.specs.Modulus.{Modulus};
 ghost use Rattle.writer.specs.Pen.{fresh, Wrote, Moved};
 ghost use Rattle.query.specs.Outcomes.{building};
-ghost use Rattle.card.specs.Parts.{headIs, readSummary};
+ghost use Rattle.card.specs.Conditions.{ReadAs, conditionsOf};
+ghost use Rattle.card.specs.Parts.{headIs};
 ghost use Rattle.builder.specs.Buildable.{Buildable, Workspace, reportIs};
-ghost use Rattle.builder.specs.Conditions.{conditionsOf, drafted, anyOrder, Ready, Readable, Writable};
+ghost use Rattle.builder.specs.Conditions.{drafted, anyOrder, Ready, Writable};
 
 // The conditions in order; their outputs go into gates and depths.
 fn put_conditions(
-    records: &[u8],
-    count: usize,
-    p: u16,
+    card: &[u8],
+    head: CardHead,
     table: &mut [u8],
     constants: &[u8],
     powers: &[u16],
     gates: &mut [u16],
     depths: &mut [u16],
 ) -> Pen
-    requires { ⌜ Writable count (now records) p (now table) (now constants) (now powers) (now gates) (now depths) ⌝ }
-    ensures wrote { λ r. ⌜ Wrote (now (table .entry)) fresh (drafted p (conditionsOf count (now (records .entry))) .gates) (now (table .exit)) r ⌝ }
-    ensures moves { λ r. ⌜ Moved fresh (length (drafted p (conditionsOf count (now (records .entry))) .gates)) r ⌝ }
-    ensures outputs { λ r. ⌜ nodes (take count (now (gates .exit))) (take count (now (depths .exit))) ≡ drafted p (conditionsOf count (now (records .entry))) .outputs ⌝ }
+    requires { ⌜ Writable (now card) head (now table) (now constants) (now powers) (now gates) (now depths) ⌝ }
+    ensures wrote { λ r. ⌜ Wrote (now (table .entry)) fresh (drafted (head .prime) (conditionsOf (now (card .entry))) .gates) (now (table .exit)) r ⌝ }
+    ensures moves { λ r. ⌜ Moved fresh (length (drafted (head .prime) (conditionsOf (now (card .entry))) .gates)) r ⌝ }
+    ensures outputs { λ r. ⌜ nodes (take (head .count) (now (gates .exit))) (take (head .count) (now (depths .exit))) ≡ drafted (head .prime) (conditionsOf (now (card .entry))) .outputs ⌝ }
 {
+    let p = head.prime as u16;
+    let count = arithmetic::wide(head.count);
     let mut pen = writer::new_pen();
-    let mut slot: u16 = 0;
+    let mut slot: u8 = 0;
     let mut k = 0;
     while k < count {
-        match card::read_condition(&records[card::RECORD * k..]) {
-            ConditionRead::Read { relation, digits } => {
-                let slots = Slots {
-                    count: digits as u16,
-                    left: slot,
-                    right: slot,
-                };
-                let written = put_condition(table, pen, p, relation, slots, constants, powers);
-                gates[k] = written.node.gate;
-                depths[k] = written.node.depth;
-                pen = written.pen;
-                slot += digits as u16;
-            }
-            ConditionRead::Refused(_) => return pen,
-        }
+        let condition = card::record_at(card, head, k, slot);
+        let relation = condition.relation;
+        let slots = Slots {
+            count: condition.digits as u16,
+            left: condition.left as u16,
+            right: condition.right as u16,
+        };
+        let written = put_condition(table, pen, p, relation, slots, constants, powers);
+        gates[k] = written.node.gate;
+        depths[k] = written.node.depth;
+        pen = written.pen;
+        slot += condition.digits;
         k += 1;
     }
     pen
 }
 
-// Whether one of the first count records has an order relation.
-fn has_order(records: &[u8], count: usize) -> bool
-    requires { ⌜ Readable count (now records) ⌝ }
-    ensures { λ r. ⌜ r ≡ anyOrder (conditionsOf count (now (records .entry))) ⌝ }
+// Whether one of the conditions has an order relation.
+fn has_order(card: &[u8], head: CardHead) -> bool
+    requires { ⌜ ReadAs (now card) head ⌝ }
+    ensures { λ r. ⌜ r ≡ anyOrder (conditionsOf (now (card .entry))) ⌝ }
 {
+    let count = arithmetic::wide(head.count);
+    let mut slot = 0;
     let mut k = 0;
     while k < count {
-        let at = card::RECORD * k;
-        match card::read_condition(&records[at..]) {
-            ConditionRead::Read {
-                relation,
-                digits: _,
-            } => {
-                if relations::is_order(relation) {
-                    return true;
-                }
-            }
-            ConditionRead::Refused(_) => return false,
+        let condition = card::record_at(card, head, k, slot);
+        let relation = condition.relation;
+        if relations::is_order(relation) {
+            return true;
         }
+        slot += condition.digits;
         k += 1;
     }
     false
 }
 
-// The order constants of a prime and the depths of the powers, which only records with an order relation ask for.
-fn prepare_order(records: &[u8], count: usize, prime: u8, constants: &mut [u8], powers: &mut [u16])
-    requires { ⌜ Readable count (now records) × Modulus prime × (prime / 2 + 1 ≤ length (now constants)) × (powerCount prime < length (now powers)) ⌝ }
-    ensures { λ _. ⌜ Ready prime (conditionsOf count (now (records .entry))) (now (constants .exit)) (now (powers .exit)) ⌝ }
+// The order constants of a prime and the depths of the powers, which only conditions with an order relation ask for.
+fn prepare_order(card: &[u8], head: CardHead, constants: &mut [u8], powers: &mut [u16])
+    requires { ⌜ ReadAs (now card) head × (mostConstants ≤ length (now constants)) × (mostPowers ≤ length (now powers)) ⌝ }
+    ensures { λ _. ⌜ Ready (head .prime) (conditionsOf (now (card .entry))) (now (constants .exit)) (now (powers .exit)) ⌝ }
 {
-    if has_order(records, count) {
-        constants::put_order_constants(prime, constants);
-        powers::put_power_depths(prime as u16, powers);
+    if has_order(card, head) {
+        constants::put_order_constants(head.prime, constants);
+        powers::put_power_depths(head.prime as u16, powers);
     }
 }
 
@@ -132,27 +126,17 @@ fn write_table(
     ensures answers { λ r. ⌜ reportAnswer (Success r) ≡ building (now (card .entry)) (now (table .entry)) .answer ⌝ }
     ensures leaves { λ r. ⌜ now (table .exit) ≡ building (now (card .entry)) (now (table .entry)) .lent ⌝ }
 {
-    let conditions = arithmetic::wide(head.count);
-    let records = &card[card::HEAD..];
-    prepare_order(records, conditions, head.prime, constants, powers);
+    prepare_order(card, head, constants, powers);
     writer::put_head(table, head.prime, head.weight, head.slots, count);
-    let pen = put_conditions(
-        records,
-        conditions,
-        head.prime as u16,
-        table,
-        constants,
-        powers,
-        gates,
-        depths,
-    );
-    let tree = tree::put_product_tree(table, pen, gates, depths, conditions);
+    let pen = put_conditions(card, head, table, constants, powers, gates, depths);
+    let outputs = arithmetic::wide(head.count);
+    let tree = tree::put_product_tree(table, pen, gates, depths, outputs);
     report_of(tree, head.weight)
 }
 
 // The table of a card that was read, or 11.
 fn build_read(card: &[u8], head: CardHead, table: &mut [u8]) -> Reported
-    requires { ⌜ accepted (headIs head) ≡ readSummary (now card) ⌝ }
+    requires { ⌜ ReadAs (now card) head ⌝ }
     ensures answers { λ r. ⌜ reportAnswer r ≡ building (now (card .entry)) (now (table .entry)) .answer ⌝ }
     ensures leaves { λ r. ⌜ now (table .exit) ≡ building (now (card .entry)) (now (table .entry)) .lent ⌝ }
 {

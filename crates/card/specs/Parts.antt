@@ -1,4 +1,4 @@
--- A condition and a card's head, as the code holds them.
+-- A form, a record and a card's head, as the code holds them.
 use Prim.Native.Nat.{ℕ}
 use mathlib.Core.List.{List}
 use lib.ListN.{length}
@@ -6,32 +6,58 @@ use Rattle.answer.specs.Numbers.{refusalNumber}
 use Rattle.answer.specs.Outcome.{Answer, refused, accepted, onAnswer}
 use Rattle.comparison.specs.Condition.{Condition}
 use Rattle.query.specs.Card.{Card, slotsOf}
-use Rattle.query.specs.Reading.{conditionAt, readConditions, readCard}
+use Rattle.query.specs.Form as query
+use Rattle.query.specs.Reading.{readConditions, readFormed, readCard}
 use Rattle.relations.specs.Relations.{relationIs}
-use Rattle.card.specs.declared.ConditionRead.{ConditionRead}
-use Rattle.card.specs.declared.ConditionRead.the-variants as conditionRead
+use Rattle.card.specs.declared.Form.{Form}
+use Rattle.card.specs.declared.Form.the-variants as form
+use Rattle.card.specs.declared.FormRead.{FormRead}
+use Rattle.card.specs.declared.FormRead.the-variants as formRead
+use Rattle.card.specs.declared.Record.{Record}
+use Rattle.card.specs.declared.RecordRead.{RecordRead}
+use Rattle.card.specs.declared.RecordRead.the-variants as recordRead
 use Rattle.card.specs.declared.SlotsRead.{SlotsRead}
 use Rattle.card.specs.declared.SlotsRead.the-variants as slotsRead
 use Rattle.card.specs.declared.CardHead.{CardHead}
 use Rattle.card.specs.declared.CardRead.{CardRead}
 use Rattle.card.specs.declared.CardRead.the-variants as cardRead
 
--- the refusal's number, or the condition from a slot on, for each case of the enum
-abbrev pub conditionAnswer : ℕ → ConditionRead → Answer Condition
-conditionAnswer slot (conditionRead.Read r n) = accepted (conditionAt slot (relationIs r) n)
-conditionAnswer slot (conditionRead.Refused why) = refused (refusalNumber why)
+-- ---- forms
+
+-- the form of the same name
+abbrev pub formIs : Form → query.Form
+formIs form.Plain = query.Plain
+
+-- the refusal's number, or the form, for each case of the enum
+abbrev pub formAnswer : FormRead → Answer query.Form
+formAnswer (formRead.Read form) = accepted (formIs form)
+formAnswer (formRead.Refused why) = refused (refusalNumber why)
+
+-- ---- records
+
+-- the condition that the code's struct stands for
+abbrev pub recordIs : Record → Condition
+recordIs r = record { relation = relationIs (r .relation); digits = r .digits; left = r .left; right = r .right }
+
+-- the refusal's number, or the condition, for each case of the enum
+abbrev pub recordAnswer : RecordRead → Answer Condition
+recordAnswer (recordRead.Read r) = accepted (recordIs r)
+recordAnswer (recordRead.Refused why) = refused (refusalNumber why)
 
 -- the digits of the next records together, or the first rule broken
-abbrev pub readSlotCount : ℕ → List ℕ → Answer ℕ
-readSlotCount count bytes = onAnswer (readConditions 0 count bytes) refused (λ cs. accepted (slotsOf cs))
+abbrev pub readSlotCount : query.Form → ℕ → ℕ → List ℕ → Answer ℕ
+readSlotCount form p count bytes = onAnswer (readConditions form p 0 count bytes) refused (λ cs. accepted (slotsOf cs))
 
 -- the refusal's number, or the digits together, for each case of the enum
 abbrev pub slotsAnswer : SlotsRead → Answer ℕ
 slotsAnswer (slotsRead.Read slots) = accepted slots
 slotsAnswer (slotsRead.Refused why) = refused (refusalNumber why)
 
--- p, s, c and N
+-- ---- cards
+
+-- the form, p, s, c and N
 pub record Summary : Type 0 where
+  pub form : query.Form
   pub prime : ℕ
   pub weight : ℕ
   pub count : ℕ
@@ -39,19 +65,24 @@ pub record Summary : Type 0 where
 
 abbrev pub summary : Card → Summary
 summary card = record {
+  form = card .form;
   prime = card .prime;
   weight = card .weight;
   count = length (card .conditions);
   slots = slotsOf (card .conditions);
 }
 
--- what a card's bytes say, or the first rule broken
+-- what a card's bytes say, or the first rule broken; and the same where the form is known
 abbrev pub readSummary : List ℕ → Answer Summary
 readSummary bytes = onAnswer (readCard bytes) refused (λ card. accepted (summary card))
 
+abbrev pub readFormedSummary : query.Form → List ℕ → Answer Summary
+readFormedSummary form bytes = onAnswer (readFormed form bytes) refused (λ card. accepted (summary card))
+
 -- what the code's struct stands for
 abbrev pub headIs : CardHead → Summary
-headIs head = record { prime = head .prime; weight = head .weight; count = head .count; slots = head .slots }
+headIs head =
+    record { form = formIs (head .form); prime = head .prime; weight = head .weight; count = head .count; slots = head .slots }
 
 -- the refusal's number, or what the card says, for each case of the enum
 abbrev pub cardAnswer : CardRead → Answer Summary

@@ -2,6 +2,8 @@
 -- Assumes nothing.
 use mathlib.Core.Path.{_≡_, refl, ap₂}
 use mathlib.Core.List.{List, [], _∷_, _++_, map}
+use Prim.Native.Nat.{ℕ, zero, suc}
+use lib.ListN.{drop}
 use Rattle.circuit.specs.Every.{Every}
 
 module _ {X : Type 0} where
@@ -25,6 +27,12 @@ module _ {X : Type 0} where
   pub every-append : (P : X → Type 0) (xs ys : List X) → Every P xs → Every P ys → Every P (xs ++ ys)
   every-append P [] ys h k = k
   every-append P (x ∷ xs) ys h k = (h .0, every-append P xs ys (h .1) k)
+
+  -- those after the first k
+  pub every-drop : (P : X → Type 0) (k : ℕ) (xs : List X) → Every P xs → Every P (drop k xs)
+  every-drop P zero xs h = h
+  every-drop P (suc k) [] h = tt
+  every-drop P (suc k) (x ∷ xs) h = every-drop P k xs (h .1)
 
   pub every-last : (P : X → Type 0) (xs : List X) (x : X) → Every P (xs ++ (x ∷ [])) → P x
   every-last P [] x h = h .0

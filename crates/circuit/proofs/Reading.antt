@@ -17,7 +17,7 @@ use Rattle.field.specs.Primes.{listed}
 use Rattle.field.proofs.Tests.{both, neither}
 use Rattle.digits.specs.Number.{wrongCount, allBelow}
 use Rattle.digits.proofs.Number.{below-at, below-drop}
-use Rattle.circuit.specs.Bytes.{Mark, byte, wrongMark, u16At}
+use Rattle.circuit.specs.Bytes.{Mark, byte, marked, wrongMark, u16At}
 use Rattle.circuit.specs.Gate.{Gate, Left, Right, Add, Sub, Scale, Flip, Mul, fields, kinds, gateOf, gateMark, gateBytes}
 use Rattle.circuit.specs.Promises.{TableLength}
 use Rattle.circuit.specs.Reading.{fitting, readFields, readGate, readGates, headOf, countOf, readHead, readTable, reading}
@@ -72,6 +72,10 @@ read-table table later w =
     rw (least, w .prime, w .weight, w .slots, whole count, w .count, room) (rw (whole count, gates))
 
 -- ---- from bytes to gates
+
+-- bytes that open with a mark have it
+pub mark-back : (mark : Mark) (later : List ℕ) → wrongMark mark (marked mark later) ≡ false
+mark-back mark later = rw (eq-eqb (mark .opening) (mark .opening) refl, eq-eqb (mark .closing) (mark .closing) refl)
 
 pub mark-is : (mark : Mark) (bytes : List ℕ) → wrongMark mark bytes ≡ false → (byte bytes 0 ≡ mark .opening) × (byte bytes 1 ≡ mark .closing)
 mark-is mark bytes t =

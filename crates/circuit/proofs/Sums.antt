@@ -16,7 +16,7 @@ use Rattle.circuit.specs.Depth.{depths}
 use Rattle.circuit.specs.Every.{Every}
 use Rattle.circuit.specs.Gate.{Gate, Add}
 use Rattle.circuit.specs.Meaning.{meaning, Solves}
-use Rattle.circuit.specs.SumPromises.{SumValue, SumDepth, SumCount, SumFits}
+use Rattle.circuit.specs.SumPromises.{SumValue, SumBelow, SumDepth, SumCount, SumFits}
 use Rattle.circuit.specs.Sums.{laterSum, sumFrom, sumGate, largest}
 use Rattle.circuit.specs.Table.{Head, fits, allFit}
 use Rattle.circuit.specs.Value.{values}
@@ -55,13 +55,13 @@ sum-value p left right E k (g ∷ gs) positive some h =
     later-value p left right E positive k _ gs (omega arith) (h .1)
     ∙ mod-same p (ap (λ (x : ℕ). x + total (map (meaning (values p left right) E) gs)) (h .0))
 
--- it is a remainder where the first term's value is
-pub sum-below : (p : ℕ) (left right : List ℕ) (E : ℕ → ℕ) (k : ℕ) (terms : List Gate) → 0 < p → 1 ≤ length terms
-    → Solves (values p left right) E k (sumFrom k terms) → E k < p → E (sumGate k (length terms)) < p
+pub sum-below : SumBelow
 sum-below p left right E k [] positive some h l = absurd (omega arith)
 sum-below p left right E k (g ∷ gs) positive some h l = later-below p left right E positive k _ gs (omega arith) (h .1) l
 
--- terms that are congruent
+-- ---- totals
+
+-- congruent entries have congruent totals
 pub total-cong : {X : Type 0} (p : ℕ) (F G : X → ℕ) (xs : List X) → Every (λ x. F x % p ≡ G x % p) xs → total (map F xs) % p ≡ total (map G xs) % p
 unfolding total
 total-cong p F G [] h = refl
@@ -108,8 +108,8 @@ later-count test none k sum (g ∷ gs) = rw (none sum k) (omega (arith, later-co
 
 pub sum-count : SumCount
 unfolding count
-sum-count k [] some = absurd (omega arith)
-sum-count k (g ∷ gs) some = (
+sum-count k [] = (refl, refl, refl)
+sum-count k (g ∷ gs) = (
   omega (arith, later-length (suc k) k gs),
   omega (arith, later-count isProduct (λ a b. refl) (suc k) k gs),
   omega (arith, later-count isSquare (λ a b. refl) (suc k) k gs),
@@ -134,7 +134,7 @@ sum-fits head k (g ∷ gs) h =
 -- ---- terms that are made of other things
 
 module _ {X : Type 0} (term : X → Gate) where
-  pub some-map : (xs : List X) → 1 ≤ length xs → 1 ≤ length (map term xs)
+  some-map : (xs : List X) → 1 ≤ length xs → 1 ≤ length (map term xs)
   some-map xs some = omega (arith, length-map xs term)
 
   place-map : (k : ℕ) (xs : List X) → sumGate k (length xs) ≡ sumGate k (length (map term xs))

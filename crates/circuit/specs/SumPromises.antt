@@ -15,12 +15,18 @@ use Rattle.circuit.specs.Sums.{sumFrom, sumGate, largest}
 use Rattle.circuit.specs.Table.{Head, fits, allFit}
 use Rattle.circuit.specs.Value.{values}
 
--- the value is the sum of the terms' values
+-- modulo p the value is the sum of the terms' values
 abbrev pub SumValue : Type 0
 SumValue =
     (p : ℕ) (left right : List ℕ) (E : ℕ → ℕ) (k : ℕ) (terms : List Gate) → 0 < p → 1 ≤ length terms
     → let alg = values p left right in
     Solves alg E k (sumFrom k terms) → E (sumGate k (length terms)) % p ≡ total (map (meaning alg E) terms) % p
+
+-- and it is below p where the first term's is
+abbrev pub SumBelow : Type 0
+SumBelow =
+    (p : ℕ) (left right : List ℕ) (E : ℕ → ℕ) (k : ℕ) (terms : List Gate) → 0 < p → 1 ≤ length terms
+    → Solves (values p left right) E k (sumFrom k terms) → E k < p → E (sumGate k (length terms)) < p
 
 -- the depth is the largest of the terms' depths
 abbrev pub SumDepth : Type 0
@@ -31,7 +37,7 @@ SumDepth =
 -- an ADD for each term but the first; no product and no square but those among the terms
 abbrev pub SumCount : Type 0
 SumCount =
-    (k : ℕ) (terms : List Gate) → 1 ≤ length terms
+    (k : ℕ) (terms : List Gate)
     → let gates = sumFrom k terms in
     (length gates ≡ 2 * length terms - 1)
     × (count isProduct gates ≡ count isProduct terms)

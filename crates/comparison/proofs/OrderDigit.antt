@@ -69,10 +69,10 @@ power-before p z i odd three one asked = go (decLe i (half p))
     go (no n) = rw (gate-high p z i (lt-of-not-le n)) (omega (arith, asked-top p i asked))
 
 module _ (p : ℕ) (three : 3 ≤ p) (odd : p % 2 ≡ 1) where
-  -- the sum is the last of the terms
   some : 1 ≤ length (orderExponents p)
   some = omega (arith, exponents-length p)
 
+  -- the sum is the last of the terms
   sum-last : (k : ℕ) → sumGate (termStart p k) (length (orderExponents p)) ≡ lessGate p k
   sum-last k = omega (arith, exponents-length p)
 
@@ -85,7 +85,7 @@ module _ (p : ℕ) (three : 3 ≤ p) (odd : p % 2 ≡ 1) where
         arith,
         powers-length p (zGate k) three odd,
         exponents-length p,
-        terms-count p (zGate k) (termStart p k) (orderExponents p) some .0,
+        terms-count p (zGate k) (termStart p k) (orderExponents p) .0,
       )
 
   pub less-count : (k : ℕ) → (count isProduct (lessGates p k) ≡ half p - 1) × (count isSquare (lessGates p k) ≡ half p / 2 + 1)
@@ -94,7 +94,7 @@ module _ (p : ℕ) (three : 3 ≤ p) (odd : p % 2 ≡ 1) where
       let ps = powers p z in
       let ts = terms p z (termStart p k) (orderExponents p) in
       let first = powers-count p z three odd in
-      let second = terms-count p z (termStart p k) (orderExponents p) some in
+      let second = terms-count p z (termStart p k) (orderExponents p) in
       (omega (arith, count-append isProduct ps ts, first .0, second .1), omega (arith, count-append isSquare ps ts, first .1, second .2))
 
   -- ---- what they name

@@ -23,7 +23,7 @@ use Rattle.circuit.proofs.Constant.{code-fits, code-is}
 use Rattle.circuit.proofs.Count.{count-none}
 use Rattle.circuit.proofs.Every.{every-map, every-made}
 use Rattle.circuit.proofs.Fitting.{one-fits}
-use Rattle.circuit.proofs.Sums.{sum-count, sum-fits, total-cong, some-map, sum-value-map, sum-below-map, sum-depth-map}
+use Rattle.circuit.proofs.Sums.{sum-count, sum-fits, total-cong, sum-value-map, sum-below-map, sum-depth-map}
 use Rattle.comparison.specs.OrderDigit.{powerGate, term, terms}
 
 -- ---- values
@@ -63,11 +63,11 @@ terms-depth E p z k is some h = sum-depth-map (term p z) E k is some h
 
 -- ---- how many gates they are; none is a product
 
-pub terms-count : (p z k : ℕ) (is : List ℕ) → 1 ≤ length is
+pub terms-count : (p z k : ℕ) (is : List ℕ)
     → (length (terms p z k is) ≡ 2 * length is - 1) × (count isProduct (terms p z k is) ≡ 0) × (count isSquare (terms p z k is) ≡ 0)
-terms-count p z k is some =
+terms-count p z k is =
     let t = term p z in
-    let counts = sum-count k (map t is) (some-map t is some) in
+    let counts = sum-count k (map t is) in
     (omega (arith, counts .0, length-map is t), counts .1 ∙ count-none isProduct t (λ i. refl) is, counts .2 ∙ count-none isSquare t (λ i. refl) is)
 
 -- ---- what they name

@@ -3,7 +3,6 @@
 use Prim.Native.Nat.{ℕ, _+_, _-_, _*_, _^_, _≤_}
 use mathlib.Core.Bool.{Bool, true, false}
 use mathlib.Core.List.{List}
-use Rattle.answer.specs.Outcome.{onAnswer}
 use Rattle.answer.specs.Report.{Report, costOf}
 use Rattle.field.specs.Logarithm.{clog}
 use Rattle.circuit.specs.Table.{mostWeight}
@@ -12,7 +11,6 @@ use Rattle.comparison.specs.Formulas.{digitSize, joinedSize, digitProducts, joi
 use Rattle.comparison.specs.Relation.{Relation, isOrder}
 use Rattle.query.specs.Card.{mostConditions}
 use Rattle.query.specs.Formulas.{overConditions}
-use Rattle.query.specs.Reading.{readConditions}
 use Rattle.card.specs.Parts.{Summary}
 use Rattle.forecast.specs.declared.Counts.{Counts}
 use Rattle.forecast.specs.declared.Totals.{Totals}
@@ -67,13 +65,6 @@ totalsOf p cs = record {
   squares = overConditions (conditionSquares p) cs;
   breadth = overConditions (λ (c : Condition). 2 ^ clog (c .digits)) cs;
 }
-
-abbrev pub noTotals : Totals
-noTotals = record { gates = 0; products = 0; squares = 0; breadth = 0 }
-
--- those of the conditions that the records are read as
-abbrev pub totalsRead : ℕ → ℕ → List ℕ → Totals
-totalsRead p count records = onAnswer (readConditions 0 count records) (λ number. noTotals) (totalsOf p)
 
 -- what k conditions can have at most
 abbrev pub TotalsWithin : ℕ → Totals → Type 0

@@ -4,14 +4,10 @@ use answer::Report;
 use answer::Reported;
 use card::CardHead;
 use card::CardRead;
-use card::ConditionRead;
-use card::HEAD;
-use card::RECORD;
 use relations::Relation;
 ghost use mathlib.Core.Path.{_≡_};
 ghost use mathlib.Core.Bool.{true, false};
-ghost use Prim.Native.Nat.{_*_, _^_, _≤_};
-ghost use lib.ListN.{length};
+ghost use Prim.Native.Nat.{_^_, _≤_};
 ghost use Rattle.answer.specs.Outcome.{accepted};
 ghost use Rattle.answer.specs.Report.{reportAnswer};
 ghost use Rattle.answer.specs.declared.Reported.the-variants.{Success};
@@ -20,9 +16,10 @@ ghost use Rattle.digits.specs.Number.{mostDigits};
 ghost use Rattle.comparison.specs.Bits.{ones};
 ghost use Rattle.query.specs.Card.{mostConditions};
 ghost use Rattle.query.specs.Outcomes.{forecasting};
-ghost use Rattle.forecast.specs.Counting.{mostInDigit, mostBeforeFlip, mostInCondition, Within, digitCounts, joinedCounts, endedCounts, conditionCounts, TotalsWithin, totalsRead, InRanges, reportFrom};
+ghost use Rattle.forecast.specs.Counting.{mostInDigit, mostBeforeFlip, mostInCondition, Within, digitCounts, joinedCounts, endedCounts, conditionCounts, totalsOf, TotalsWithin, InRanges, reportFrom};
 ghost use Rattle.relations.specs.Relations.{relationIs};
-ghost use Rattle.card.specs.Parts.{headIs, readSummary};
+ghost use Rattle.card.specs.Conditions.{ReadAs, conditionsOf};
+ghost use Rattle.card.specs.Parts.{headIs};
 
 // How many gates, products and squares there are in a digit or a condition.
 struct Counts {
@@ -145,37 +142,29 @@ fn count_condition(relation: Relation, n: u8, order: Counts, equality: Counts) -
     end_condition(relation, join_equality(n, equality))
 }
 
-// What the first count records have together, and nothing where one of them is refused.
-fn count_conditions(records: &[u8], count: usize, prime: u8) -> Totals
-    requires { ⌜ (count ≤ mostConditions) × (4 * count ≤ length (now records)) × (3 ≤ prime) ⌝ }
-    ensures { λ r. ⌜ (r ≡ totalsRead prime count (now (records .entry))) × TotalsWithin mostConditions r ⌝ }
+// What the conditions of a card that was read have together.
+fn count_conditions(card: &[u8], head: CardHead) -> Totals
+    requires { ⌜ ReadAs (now card) head ⌝ }
+    ensures { λ r. ⌜ (r ≡ totalsOf (head .prime) (conditionsOf (now (card .entry)))) × TotalsWithin mostConditions r ⌝ }
 {
-    let order = order_digit(prime);
-    let equality = equality_digit(prime);
+    let order = order_digit(head.prime);
+    let equality = equality_digit(head.prime);
+    let count = arithmetic::wide(head.count);
     let mut gates: u32 = 0;
     let mut products: u32 = 0;
     let mut squares: u32 = 0;
     let mut breadth: u32 = 0;
+    let mut slot: u8 = 0;
     let mut k = 0;
     while k < count {
-        let at = RECORD * k;
-        match card::read_condition(&records[at..]) {
-            ConditionRead::Read { relation, digits } => {
-                let own = count_condition(relation, digits, order, equality);
-                gates += own.gates;
-                products += own.products;
-                squares += own.squares;
-                breadth += power_above(digits) as u32;
-            }
-            ConditionRead::Refused(_) => {
-                return Totals {
-                    gates: 0,
-                    products: 0,
-                    squares: 0,
-                    breadth: 0,
-                };
-            }
-        }
+        let condition = card::record_at(card, head, k, slot);
+        let relation = condition.relation;
+        let own = count_condition(relation, condition.digits, order, equality);
+        gates += own.gates;
+        products += own.products;
+        squares += own.squares;
+        breadth += power_above(condition.digits) as u32;
+        slot += condition.digits;
         k += 1;
     }
     Totals {
@@ -205,12 +194,10 @@ fn report_on(head: CardHead, totals: Totals) -> Report
 
 // The report on the table of a card that was read.
 pub fn forecast_read(card: &[u8], head: CardHead) -> Report
-    requires { ⌜ accepted (headIs head) ≡ readSummary (now card) ⌝ }
+    requires { ⌜ ReadAs (now card) head ⌝ }
     ensures { λ r. ⌜ reportAnswer (Success r) ≡ forecasting (now (card .entry)) ⌝ }
 {
-    let count = arithmetic::wide(head.count);
-    let totals = count_conditions(&card[HEAD..], count, head.prime);
-    report_on(head, totals)
+    report_on(head, count_conditions(card, head))
 }
 
 // The report on a card's table from the card alone, or the first rule that the card breaks.

@@ -7,6 +7,7 @@ use Rattle.answer.specs.Outcome.{refused, accepted}
 use Rattle.answer.specs.Report.{Report}
 use Rattle.circuit.specs.Table.{mostGates}
 use Rattle.query.specs.Card.{Card, mostConditions}
+use Rattle.query.specs.Form.{headSize, mostRecord}
 use Rattle.query.specs.Outcomes.{forecasting}
 use Rattle.query.specs.Promises.{gatesOf}
 use Rattle.query.specs.Reading.{readCard}
@@ -23,9 +24,9 @@ TableListed =
     (bytes : List ℕ) (card : Card) (told : Report) → readCard bytes ≡ accepted card → forecasting bytes ≡ accepted told
     → listing bytes ≡ summaryLine told ++ gateLines 0 (gatesOf card)
 
--- the bytes of the longest card
+-- the bytes of the longest card, whatever its form
 abbrev pub mostCard : ℕ
-mostCard = 6 + 4 * mostConditions
+mostCard = headSize + mostRecord * mostConditions
 
 -- input longer than any card is refused, and as its first bytes are, one more than a card has
 abbrev pub LongCard : Type 0

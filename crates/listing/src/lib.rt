@@ -15,7 +15,7 @@ ghost use Rattle.text.specs.Putting.{Puts, Fits};
 ghost use Rattle.listing.specs.Records.{nameOf, recordLine, recordLines};
 
 // The bytes of the longest card.
-pub const MOST_CARD: usize = card::HEAD + card::RECORD * card::MOST_CONDITIONS;
+pub const MOST_CARD: usize = card::HEAD + card::MOST_RECORD * card::MOST_CONDITIONS;
 
 // The bytes of the longest table.
 pub const MOST_TABLE: usize = RECORD * (MOST_GATES + 1);

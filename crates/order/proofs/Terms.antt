@@ -22,7 +22,7 @@ use Rattle.order.specs.Prepared.{Constants}
 -- ---- the constants
 
 -- the exponents after those below i: the odd ones from i on, and p - 1
-abbrev pub exponentsFrom : ℕ → ℕ → List ℕ
+abbrev exponentsFrom : ℕ → ℕ → List ℕ
 exponentsFrom p i = everySecond ((p - i) / 2) i ++ ((p - 1) ∷ [])
 
 mapped-at : (f : ℕ → ℕ) (is later : List ℕ) (m : ℕ) → m < length is → getD (map f is ++ later) m 0 ≡ f (getD is m 0)

@@ -22,11 +22,13 @@ use Rattle.circuit.specs.Report.{report}
 use Rattle.circuit.specs.Table.{tableBytes, wrongWeight}
 use Rattle.circuit.proofs.Reading.{table-length}
 use Rattle.comparison.specs.Relation.{relations}
-use Rattle.query.specs.Card.{Card, cardMark, conditionMark, wrongConditionCount, slotsOf}
+use Rattle.query.specs.Card.{Card, wrongConditionCount, slotsOf}
 use Rattle.query.specs.CardPromises.{TurnedAway, RoomDecides, FillsExactly, RefusalKeeps, SameRefusal}
+use Rattle.query.specs.Form.{headSize, Form, recordMarkOf, recordSize, formOf}
 use Rattle.query.specs.Outcomes.{tableRoom, building, forecasting}
 use Rattle.query.specs.Reading.{readCondition, readConditions, readCard}
 use Rattle.query.specs.Whole.{tableOf}
+use Rattle.query.proofs.Form.{OfCard, form-refuses, tail-refuses}
 
 -- an accepted card with room
 pub built : (bytes lent : List ℕ) (card : Card) → readCard bytes ≡ accepted card → tableRoom (tableOf card) ≤ length lent
@@ -43,34 +45,31 @@ fills-exactly bytes lent card e room =
 
 -- ---- the numbers of a card's rules
 
-abbrev Other : ℕ → Type 0
-Other number = number ≢ 11
-
-conditions-other : (slot count : ℕ) (bytes : List ℕ) → Refuses Other (readConditions slot count bytes)
+conditions-refuse : (form : Form) (p slot count : ℕ) (bytes : List ℕ) → Refuses OfCard (readConditions form p slot count bytes)
 unfolding readConditions
-conditions-other slot zero bytes = accepted-refuses
-conditions-other slot (suc count) bytes =
-    onAnswer-refuses (readCondition slot bytes)
-    (refuse-refuses (wrongMark conditionMark bytes) 2 (λ e. omega arith)
-    (onAnswer-refuses (numbered 8 (byte bytes 2) relations) (numbered-refuses 8 (byte bytes 2) relations (λ e. omega arith)) (λ relation.
-    refuse-refuses (wrongCount (byte bytes 3)) 9 (λ e. omega arith) accepted-refuses)))
-    (λ c. onAnswer-refuses _ (conditions-other _ count (drop 4 bytes)) (λ cs. accepted-refuses))
+conditions-refuse form p slot zero bytes = accepted-refuses
+conditions-refuse form p slot (suc count) bytes =
+    onAnswer-refuses (readCondition form p slot bytes)
+    (refuse-refuses (wrongMark (recordMarkOf form) bytes) 2 (omega arith)
+    (onAnswer-refuses (numbered 8 (byte bytes 2) relations) (numbered-refuses 8 (byte bytes 2) relations (omega arith)) (λ relation.
+    refuse-refuses (wrongCount (byte bytes 3)) 9 (omega arith) (tail-refuses form p slot relation (byte bytes 3) bytes))))
+    (λ c. onAnswer-refuses _ (conditions-refuse form p _ count (drop (recordSize form) bytes)) (λ cs. accepted-refuses))
 
-card-other : (bytes : List ℕ) → Refuses Other (readCard bytes)
-card-other bytes =
+pub card-refuses : (bytes : List ℕ) → Refuses OfCard (readCard bytes)
+card-refuses bytes =
     let count = byte bytes 4 in
-    refuse-refuses (ltb (length bytes) 6) 1 (λ e. omega arith)
-    (refuse-refuses (wrongMark cardMark bytes) 2 (λ e. omega arith)
-    (refuse-refuses (not (listed (byte bytes 2))) 3 (λ e. omega arith)
-    (refuse-refuses (wrongWeight (byte bytes 3)) 4 (λ e. omega arith)
-    (refuse-refuses (not (eqb (byte bytes 5) 0)) 5 (λ e. omega arith)
-    (refuse-refuses (wrongConditionCount count) 6 (λ e. omega arith)
-    (refuse-refuses (not (eqb (length bytes) (6 + 4 * count))) 7 (λ e. omega arith)
-    (onAnswer-refuses (readConditions 0 count (drop 6 bytes)) (conditions-other 0 count (drop 6 bytes)) (λ cs.
-    refuse-refuses (ltb mostDigits (slotsOf cs)) 10 (λ e. omega arith) accepted-refuses))))))))
+    refuse-refuses (ltb (length bytes) headSize) 1 (omega arith)
+    (onAnswer-refuses (formOf bytes) (form-refuses bytes) (λ form.
+    refuse-refuses (not (listed (byte bytes 2))) 3 (omega arith)
+    (refuse-refuses (wrongWeight (byte bytes 3)) 4 (omega arith)
+    (refuse-refuses (not (eqb (byte bytes 5) 0)) 5 (omega arith)
+    (refuse-refuses (wrongConditionCount count) 6 (omega arith)
+    (refuse-refuses (not (eqb (length bytes) (headSize + recordSize form * count))) 7 (omega arith)
+    (onAnswer-refuses (readConditions form (byte bytes 2) 0 count (drop headSize bytes)) (conditions-refuse form (byte bytes 2) 0 count (drop headSize bytes)) (λ cs.
+    refuse-refuses (ltb mostDigits (slotsOf cs)) 10 (omega arith) accepted-refuses))))))))
 
 pub turned-away : TurnedAway
-turned-away bytes lent number e = (rw e, card-other bytes .number number e)
+turned-away bytes lent number e = (rw e, card-refuses bytes .number number e .0)
 
 -- ---- room
 
@@ -96,7 +95,7 @@ same-refusal bytes lent number = go (readCard bytes) refl
     go : (r : Answer Card) → readCard bytes ≡ r
         → (forecasting bytes ≡ refused number) ↔ ((building bytes lent .answer ≡ refused number) × (number ≢ 11))
     go (refused k) e =
-        rw e (λ h. (h, let same : k ≡ number = cc in subst Other same (card-other bytes .number k e)), λ h. h .0)
+        rw e (λ h. (h, let same : k ≡ number = cc in subst (λ (n : ℕ). n ≢ 11) same (card-refuses bytes .number k e .0)), λ h. h .0)
     go (accepted card) e =
         rw e (
           λ h. absurd (refused≢accepted (sym h)),

@@ -16,10 +16,13 @@ use Rattle.field.proofs.Primes.{listed-is-odd-prime}
 use Rattle.field.proofs.Tests.{in-range}
 use Rattle.digits.specs.Number.{mostDigits}
 use Rattle.circuit.specs.Every.{Every}
-use Rattle.circuit.specs.Table.{leastWeight, mostWeight, wrongWeight}
+use Rattle.circuit.specs.Table.{leastWeight, mostWeight, wrongWeight, leftSlots, rightSlots}
 use Rattle.comparison.specs.Condition.{Condition, HasSlots}
 use Rattle.query.specs.Card.{Card, mostConditions, slotsOf, inSlots}
+use Rattle.query.specs.Form.{Form}
 use Rattle.query.specs.Reading.{readCard}
+use Rattle.query.specs.Whole.{tableOf}
+use Rattle.query.proofs.Form.{tail-left, tail-right}
 use Rattle.query.proofs.Reading.{Keeps, in-slots, reads}
 
 pub record Accepted (card : Card) : Type 0 where
@@ -29,34 +32,40 @@ pub record Accepted (card : Card) : Type 0 where
   pub weightTest : wrongWeight (card .weight) ≡ false
   pub count : (1 ≤ length (card .conditions)) × (length (card .conditions) ≤ mostConditions)
   pub slots : (1 ≤ slotsOf (card .conditions)) × (slotsOf (card .conditions) ≤ mostDigits)
-  pub each : Every (λ (c : Condition). HasSlots (slotsOf (card .conditions)) (slotsOf (card .conditions)) c) (card .conditions)
+  -- so many slots has the table's head on each side
+  pub sides : (leftSlots (tableOf card .head) ≤ mostDigits) × (rightSlots (tableOf card .head) ≤ mostDigits)
+  -- and each condition's are among them
+  pub each : Every (HasSlots (leftSlots (tableOf card .head)) (rightSlots (tableOf card .head))) (card .conditions)
 
 -- conditions that take the slots from slot on, up to N at most
-in-card : (N slot : ℕ) (cs : List Condition) → inSlots slot cs ≡ true → slot + slotsOf cs ≤ N → Every (λ (c : Condition). HasSlots N N c) cs
+in-card : (form : Form) (p N slot : ℕ) (cs : List Condition) → inSlots form p slot cs ≡ true → slot + slotsOf cs ≤ N
+    → Every (HasSlots N N) cs
 unfolding total
-in-card N slot [] t h = tt
-in-card N slot (c ∷ cs) t h =
-    let s = in-slots slot c cs t in
+in-card form p N slot [] t h = tt
+in-card form p N slot (c ∷ cs) t h =
+    let s = in-slots form p slot c cs t in
     let n = in-range (c .digits) 1 mostDigits (s .count) in
-    (omega (arith, n, s .left, s .right), in-card N (slot + c .digits) cs (s .later) (omega arith))
+    (omega (arith, n, tail-left form p slot c (s .tail), tail-right form p slot c (s .tail)), in-card form p N (slot + c .digits) cs (s .later) (omega arith))
 
 -- a condition has at least one slot
-some-slot : (slot : ℕ) (cs : List Condition) → inSlots slot cs ≡ true → 1 ≤ length cs → 1 ≤ slotsOf cs
+some-slot : (form : Form) (p slot : ℕ) (cs : List Condition) → inSlots form p slot cs ≡ true → 1 ≤ length cs → 1 ≤ slotsOf cs
 unfolding total
-some-slot slot [] t h = absurd (omega arith)
-some-slot slot (c ∷ cs) t h = let n = in-range (c .digits) 1 mostDigits (in-slots slot c cs t .count) in omega arith
+some-slot form p slot [] t h = absurd (omega arith)
+some-slot form p slot (c ∷ cs) t h = let n = in-range (c .digits) 1 mostDigits (in-slots form p slot c cs t .count) in omega arith
 
 accepted-keeps : (card : Card) → Keeps card → Accepted card
 accepted-keeps card k =
     let count = in-range (length (card .conditions)) 1 mostConditions (k .count) in
+    let few = ltb-false mostDigits (slotsOf (card .conditions)) (k .slots) in
     record {
       prime = listed-is-odd-prime (card .prime) .0 (k .prime);
       listed = k .prime;
       weight = in-range (card .weight) leastWeight mostWeight (k .weight);
       weightTest = k .weight;
       count = count;
-      slots = (some-slot 0 (card .conditions) (k .placed) (count .0), ltb-false mostDigits (slotsOf (card .conditions)) (k .slots));
-      each = in-card (slotsOf (card .conditions)) 0 (card .conditions) (k .placed) (omega arith);
+      slots = (some-slot (card .form) (card .prime) 0 (card .conditions) (k .placed) (count .0), few);
+      sides = (few, few);
+      each = in-card (card .form) (card .prime) (slotsOf (card .conditions)) 0 (card .conditions) (k .placed) (omega arith);
     }
 
 pub accepted-card : (bytes : List ℕ) (card : Card) → readCard bytes ≡ accepted card → Accepted card

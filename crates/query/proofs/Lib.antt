@@ -1,6 +1,7 @@
 -- Laws that other crates cite.
 pub mod BuildOrder
 pub mod Building
+pub mod Form
 pub mod Reading
 pub mod CardFacts
 pub mod OverConditions

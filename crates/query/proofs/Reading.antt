@@ -1,8 +1,8 @@
 -- Reading cards: the bytes of a card that keeps the rules read as that card, and whatever is read is such a card, byte for byte.
--- A record's four bytes and its condition determine each other;
+-- A record's bytes and its condition determine each other, by the laws of its form;
 -- the conditions follow by induction on the records, the head by its rules one at a time.
 -- Assumes nothing.
-use mathlib.Core.Path.{_≡_, refl, sym, ap, ap₂, _∙_}
+use mathlib.Core.Path.{_≡_, refl, sym, ap, subst, _∙_}
 use mathlib.Core.Bool.{true, false, not}
 use mathlib.Core.List.{List, [], _∷_, _++_}
 use Prim.Native.Nat.{ℕ, zero, suc, _+_, _*_, _≤_}
@@ -10,8 +10,8 @@ use native.Mathlib.Omega.{arith}
 use native.Mathlib.Nat.{zero-add}
 use borrow.Author.Tests.{eq-eqb, le-ltb, eqb-true, not-true, not-false}
 use lib.Dec.{ltb, eqb}
-use lib.ListN.{length, drop, length-drop}
-use lib.Seq.{drop-cons}
+use lib.ListN.{length, drop, length-append, length-drop}
+use lib.Seq.{drop-at, drop-cons}
 use Rattle.answer.specs.Outcome.{Answer, refused, accepted, numbered}
 use Rattle.answer.proofs.Outcome.{passed, answered, accepted-same, numbered-is}
 use Rattle.field.specs.Primes.{listed}
@@ -19,12 +19,14 @@ use Rattle.field.proofs.Tests.{both}
 use Rattle.digits.specs.Number.{mostDigits, wrongCount}
 use Rattle.circuit.specs.Bytes.{byte, wrongMark}
 use Rattle.circuit.specs.Table.{wrongWeight}
-use Rattle.circuit.proofs.Reading.{mark-is}
+use Rattle.circuit.proofs.Reading.{mark-back, mark-is}
 use Rattle.comparison.specs.Condition.{Condition}
 use Rattle.comparison.specs.Relation.{Relation, Less, AtMost, Greater, AtLeast, Equal, NotEqual, relationNumber, relations}
-use Rattle.query.specs.Card.{Card, cardMark, conditionMark, wrongConditionCount, slotsOf, conditionBytes, conditionsBytes, cardBytes, inSlots, keepsRules}
+use Rattle.query.specs.Card.{Card, wrongConditionCount, slotsOf, conditionBytes, conditionsBytes, cardBytes, inSlots, keepsRules}
 use Rattle.query.specs.CardPromises.{AcceptsCards, OnlyCards}
-use Rattle.query.specs.Reading.{readCondition, readConditions, readSlots, readCard}
+use Rattle.query.specs.Form.{headSize, Form, headMarkOf, recordMarkOf, recordSize, formOf, tailBytes, keepsTail}
+use Rattle.query.specs.Reading.{readCondition, readConditions, readSlots, readFormed, readCard}
+use Rattle.query.proofs.Form.{form-back, form-marked, record-length, tail-back, Tail, tail-says}
 
 -- ---- the rules one by one
 
@@ -33,7 +35,7 @@ pub record Keeps (card : Card) : Type 0 where
   pub prime : listed (card .prime) ≡ true
   pub weight : wrongWeight (card .weight) ≡ false
   pub count : wrongConditionCount (length (card .conditions)) ≡ false
-  pub placed : inSlots 0 (card .conditions) ≡ true
+  pub placed : inSlots (card .form) (card .prime) 0 (card .conditions) ≡ true
   pub slots : ltb mostDigits (slotsOf (card .conditions)) ≡ false
 
 keeps : (card : Card) → keepsRules card ≡ true → Keeps card
@@ -41,7 +43,7 @@ keeps card t =
     let prime = both (listed (card .prime)) _ t in
     let weight = both (not (wrongWeight (card .weight))) _ (prime .1) in
     let count = both (not (wrongConditionCount (length (card .conditions)))) _ (weight .1) in
-    let placed = both (inSlots 0 (card .conditions)) _ (count .1) in
+    let placed = both (inSlots (card .form) (card .prime) 0 (card .conditions)) _ (count .1) in
     record {
       prime = prime .0;
       weight = not-true _ (weight .0);
@@ -53,25 +55,18 @@ keeps card t =
 keeps-rules : (card : Card) → Keeps card → keepsRules card ≡ true
 keeps-rules card k = rw (k .prime, k .weight, k .count, k .placed, k .slots)
 
--- of the first condition, which takes the slots from this one on, and of the others
-pub record Placed (slot : ℕ) (c : Condition) (cs : List Condition) : Type 0 where
+-- of the first condition, where this slot is the next that is free, and of the others
+pub record Placed (form : Form) (p slot : ℕ) (c : Condition) (cs : List Condition) : Type 0 where
   pub count : wrongCount (c .digits) ≡ false
-  pub left : c .left ≡ slot
-  pub right : c .right ≡ slot
-  pub later : inSlots (slot + c .digits) cs ≡ true
+  pub tail : keepsTail form p slot c ≡ true
+  pub later : inSlots form p (slot + c .digits) cs ≡ true
 
-pub in-slots : (slot : ℕ) (c : Condition) (cs : List Condition) → inSlots slot (c ∷ cs) ≡ true → Placed slot c cs
+pub in-slots : (form : Form) (p slot : ℕ) (c : Condition) (cs : List Condition) → inSlots form p slot (c ∷ cs) ≡ true → Placed form p slot c cs
 unfolding inSlots
-in-slots slot c cs t =
+in-slots form p slot c cs t =
     let count = both (not (wrongCount (c .digits))) _ t in
-    let left = both (eqb (c .left) slot) _ (count .1) in
-    let right = both (eqb (c .right) slot) _ (left .1) in
-    record {
-      count = not-true _ (count .0);
-      left = eqb-true _ _ (left .0);
-      right = eqb-true _ _ (right .0);
-      later = right .1;
-    }
+    let tail = both (keepsTail form p slot c) _ (count .1) in
+    record { count = not-true _ (count .0); tail = tail .0; later = tail .1 }
 
 -- ---- from a card to its bytes and back
 
@@ -84,38 +79,49 @@ relation-back AtLeast = refl
 relation-back Equal = refl
 relation-back NotEqual = refl
 
--- a condition from its relation, its digits and its first slot on each side
-abbrev conditionOf : Relation → ℕ → ℕ → ℕ → Condition
-conditionOf r n left right = record { relation = r; digits = n; left = left; right = right }
+module _ (form : Form) (p : ℕ) where
+  read-condition : (slot : ℕ) (c : Condition) (cs : List Condition) (later : List ℕ) → Placed form p slot c cs
+      → readCondition form p slot (conditionBytes form c ++ later) ≡ accepted c
+  read-condition slot c cs later h =
+      rw (mark-back (recordMarkOf form) (relationNumber (c .relation) ∷ c .digits ∷ (tailBytes form c ++ later)), relation-back (c .relation), h .count)
+      (tail-back form p slot c later (h .tail))
 
-read-condition : (slot : ℕ) (c : Condition) (cs : List Condition) (later : List ℕ) → Placed slot c cs
-    → readCondition slot (conditionBytes c ++ later) ≡ accepted c
-read-condition slot c cs later h =
-    rw (relation-back (c .relation), h .count)
-    (ap₂ (λ (l r : ℕ). accepted (conditionOf (c .relation) (c .digits) l r)) (sym (h .left)) (sym (h .right)))
+  read-conditions : (slot : ℕ) (cs : List Condition) → inSlots form p slot cs ≡ true
+      → readConditions form p slot (length cs) (conditionsBytes form cs) ≡ accepted cs
+  unfolding readConditions conditionsBytes
+  read-conditions slot [] t = refl
+  read-conditions slot (c ∷ cs) t =
+      let h = in-slots form p slot c cs t in
+      rw (
+        read-condition slot c cs (conditionsBytes form cs) h,
+        drop-at (conditionBytes form c) (conditionsBytes form cs) (recordSize form) (record-length form c),
+        read-conditions (slot + c .digits) cs (h .later),
+      )
 
-read-conditions : (slot : ℕ) (cs : List Condition) → inSlots slot cs ≡ true
-    → readConditions slot (length cs) (conditionsBytes cs) ≡ accepted cs
-unfolding readConditions conditionsBytes
-read-conditions slot [] t = refl
-read-conditions slot (c ∷ cs) t =
-    let h = in-slots slot c cs t in
-    rw (read-condition slot c cs (conditionsBytes cs) h, read-conditions (slot + c .digits) cs (h .later))
-
-length-conditions : (cs : List Condition) → length (conditionsBytes cs) ≡ 4 * length cs
+length-conditions : (form : Form) (cs : List Condition) → length (conditionsBytes form cs) ≡ recordSize form * length cs
 unfolding conditionsBytes
-length-conditions [] = refl
-length-conditions (c ∷ cs) = omega (arith, length-conditions cs)
+length-conditions form [] = omega arith
+length-conditions form (c ∷ cs) =
+    omega (arith, length-append (conditionBytes form c) (conditionsBytes form cs), record-length form c, length-conditions form cs)
 
-pub length-card : (card : Card) → length (cardBytes card) ≡ 6 + 4 * length (card .conditions)
-length-card card = omega (arith, length-conditions (card .conditions))
+pub length-card : (card : Card) → length (cardBytes card) ≡ headSize + recordSize (card .form) * length (card .conditions)
+length-card card = omega (arith, length-conditions (card .form) (card .conditions))
 
 pub accepts-cards : AcceptsCards
 accepts-cards card t =
     let k = keeps card t in
-    let least = le-ltb (length (cardBytes card)) 6 (omega (arith, length-card card)) in
-    let size = eq-eqb (length (cardBytes card)) (6 + 4 * length (card .conditions)) (length-card card) in
-    rw (least, k .prime, k .weight, k .count, size, read-conditions 0 (card .conditions) (k .placed), k .slots)
+    let least = le-ltb (length (cardBytes card)) headSize (omega (arith, length-card card)) in
+    let size = eq-eqb (length (cardBytes card)) (headSize + recordSize (card .form) * length (card .conditions)) (length-card card) in
+    rw (
+      least,
+      form-back (card .form) (card .prime ∷ card .weight ∷ length (card .conditions) ∷ 0 ∷ conditionsBytes (card .form) (card .conditions)),
+      k .prime,
+      k .weight,
+      k .count,
+      size,
+      read-conditions (card .form) (card .prime) 0 (card .conditions) (k .placed),
+      k .slots,
+    )
 
 -- ---- from bytes to a card
 
@@ -124,29 +130,25 @@ relation-number place r e =
     numbered-is (λ n r. relationNumber r ≡ n) 0 8 place relations r (omega arith) e ∙ zero-add _
 
 -- what a record says whose condition was read
-record Says (slot : ℕ) (bytes : List ℕ) (c : Condition) : Type 0 where
-  mark : (byte bytes 0 ≡ conditionMark .opening) × (byte bytes 1 ≡ conditionMark .closing)
-  relation : relationNumber (c .relation) ≡ byte bytes 2
-  digits : c .digits ≡ byte bytes 3
-  count : wrongCount (c .digits) ≡ false
-  left : c .left ≡ slot
-  right : c .right ≡ slot
+pub record Says (form : Form) (p slot : ℕ) (bytes : List ℕ) (c : Condition) : Type 0 where
+  pub mark : (byte bytes 0 ≡ recordMarkOf form .opening) × (byte bytes 1 ≡ recordMarkOf form .closing)
+  pub relation : relationNumber (c .relation) ≡ byte bytes 2
+  pub count : wrongCount (c .digits) ≡ false
+  pub tail : Tail form p slot (c .relation) (byte bytes 3) bytes c
 
-says : (slot : ℕ) (bytes : List ℕ) (c : Condition) → readCondition slot bytes ≡ accepted c → Says slot bytes c
-says slot bytes c e =
+pub says : (form : Form) (p slot : ℕ) (bytes : List ℕ) (c : Condition) → readCondition form p slot bytes ≡ accepted c → Says form p slot bytes c
+says form p slot bytes c e =
     let answer : Answer Condition → Answer Condition = λ r. r in
-    let mark = passed answer (wrongMark conditionMark bytes) (refused 2) _ refl e in
+    let mark = passed answer (wrongMark (recordMarkOf form) bytes) (refused 2) _ refl e in
     let relation = answered (numbered 8 (byte bytes 2) relations) _ (mark .1) in
     let count = passed answer (wrongCount (byte bytes 3)) (refused 9) _ refl (relation .2) in
-    let same : conditionOf (relation .0) (byte bytes 3) slot slot ≡ c = accepted-same (count .1) in
-    rw (← same) (record {
-      mark = mark-is conditionMark bytes (mark .0);
-      relation = relation-number (byte bytes 2) (relation .0) (relation .1);
-      digits = refl;
-      count = count .0;
-      left = refl;
-      right = refl;
-    })
+    let tail = tail-says form p slot (relation .0) (byte bytes 3) bytes c (count .1) in
+    record {
+      mark = mark-is (recordMarkOf form) bytes (mark .0);
+      relation = ap relationNumber (tail .relation) ∙ relation-number (byte bytes 2) (relation .0) (relation .1);
+      count = rw (tail .digits) (count .0);
+      tail = subst (λ (r : Relation). Tail form p slot r (byte bytes 3) bytes c) (sym (tail .relation)) tail;
+    }
 
 -- four bytes and those after them
 four : (bytes : List ℕ) → 4 ≤ length bytes → bytes ≡ byte bytes 0 ∷ byte bytes 1 ∷ byte bytes 2 ∷ byte bytes 3 ∷ drop 4 bytes
@@ -156,77 +158,79 @@ four bytes h =
 
 -- six bytes and those after them
 six : (bytes : List ℕ) → 6 ≤ length bytes
-    → bytes ≡ byte bytes 0 ∷ byte bytes 1 ∷ byte bytes 2 ∷ byte bytes 3 ∷ byte bytes 4 ∷ byte bytes 5 ∷ drop 6 bytes
+    → bytes ≡ byte bytes 0 ∷ byte bytes 1 ∷ byte bytes 2 ∷ byte bytes 3 ∷ byte bytes 4 ∷ byte bytes 5 ∷ drop headSize bytes
 six bytes h = four bytes (omega arith) ∙ rw (drop-cons bytes 4 0 (omega arith), drop-cons bytes 5 0 (omega arith))
 
--- the bytes of a condition that was read
-condition-bytes : (slot : ℕ) (bytes : List ℕ) (c : Condition) → 4 ≤ length bytes → Says slot bytes c
-    → bytes ≡ conditionBytes c ++ drop 4 bytes
-condition-bytes slot bytes c l s = four bytes l ∙ rw (s .mark .0, s .mark .1, s .relation, s .digits)
+module _ (form : Form) (p : ℕ) where
+  -- the bytes of a condition that was read
+  condition-bytes : (slot : ℕ) (bytes : List ℕ) (c : Condition) → recordSize form ≤ length bytes → Says form p slot bytes c
+      → bytes ≡ conditionBytes form c ++ drop (recordSize form) bytes
+  condition-bytes slot bytes c l s =
+      four bytes (omega (arith, l, record-length form c)) ∙ rw (s .mark .0, s .mark .1, ← s .relation, ← s .tail .digits, s .tail .after l)
 
--- the first condition, and the others
-conditions-cons : (slot count : ℕ) (bytes : List ℕ) (cs : List Condition) → readConditions slot (suc count) bytes ≡ accepted cs
-    → (c : Condition) × (later : List Condition) × (cs ≡ c ∷ later) × Says slot bytes c
-    × (readConditions (slot + c .digits) count (drop 4 bytes) ≡ accepted later)
-unfolding readConditions
-conditions-cons slot count bytes cs e =
-    let first = answered (readCondition slot bytes) _ e in
-    let others = answered (readConditions (slot + first .0 .digits) count (drop 4 bytes)) _ (first .2) in
-    (first .0, others .0, sym (accepted-same (others .2)), says slot bytes (first .0) (first .1), others .1)
+  -- the first condition, and the others
+  pub conditions-cons : (slot count : ℕ) (bytes : List ℕ) (cs : List Condition) → readConditions form p slot (suc count) bytes ≡ accepted cs
+      → (c : Condition) × (later : List Condition) × (cs ≡ c ∷ later) × (readCondition form p slot bytes ≡ accepted c)
+      × (readConditions form p (slot + c .digits) count (drop (recordSize form) bytes) ≡ accepted later)
+  unfolding readConditions
+  conditions-cons slot count bytes cs e =
+      let first = answered (readCondition form p slot bytes) _ e in
+      let others = answered (readConditions form p (slot + first .0 .digits) count (drop (recordSize form) bytes)) _ (first .2) in
+      (first .0, others .0, sym (accepted-same (others .2)), first .1, others .1)
 
--- the conditions that were read are as many as there should be, and each has its slots
-pub conditions-placed : (slot count : ℕ) (bytes : List ℕ) (cs : List Condition) → readConditions slot count bytes ≡ accepted cs
-    → (length cs ≡ count) × (inSlots slot cs ≡ true)
-unfolding readConditions inSlots
-conditions-placed slot zero bytes cs e = rw (← accepted-same e) (refl, refl)
-conditions-placed slot (suc count) bytes cs e =
-    let s = conditions-cons slot count bytes cs e in
-    let later = conditions-placed (slot + s .0 .digits) count (drop 4 bytes) (s .1) (s .4) in
-    let left = eq-eqb (s .0 .left) slot (s .3 .left) in
-    let right = eq-eqb (s .0 .right) slot (s .3 .right) in
-    rw (s .2) (ap suc (later .0), rw (s .3 .count, left, right) (later .1))
+  -- the conditions that were read are as many as there should be, and each has its slots
+  pub conditions-placed : (slot count : ℕ) (bytes : List ℕ) (cs : List Condition) → readConditions form p slot count bytes ≡ accepted cs
+      → (length cs ≡ count) × (inSlots form p slot cs ≡ true)
+  unfolding readConditions inSlots
+  conditions-placed slot zero bytes cs e = rw (← accepted-same e) (refl, refl)
+  conditions-placed slot (suc count) bytes cs e =
+      let s = conditions-cons slot count bytes cs e in
+      let first = says form p slot bytes (s .0) (s .3) in
+      let later = conditions-placed (slot + s .0 .digits) count (drop (recordSize form) bytes) (s .1) (s .4) in
+      rw (s .2) (ap suc (later .0), rw (first .count, first .tail .kept) (later .1))
 
--- and their bytes are those that were lent
-conditions-bytes : (slot count : ℕ) (bytes : List ℕ) (cs : List Condition) → length bytes ≡ 4 * count
-    → readConditions slot count bytes ≡ accepted cs → bytes ≡ conditionsBytes cs
-unfolding readConditions conditionsBytes
-conditions-bytes slot zero [] cs l e = rw (← accepted-same e) refl
-conditions-bytes slot zero (b ∷ bytes) cs l e = absurd (omega arith)
-conditions-bytes slot (suc count) bytes cs l e =
-    let s = conditions-cons slot count bytes cs e in
-    let size : length (drop 4 bytes) ≡ 4 * count = rw length-drop (omega arith) in
-    let later = conditions-bytes (slot + s .0 .digits) count (drop 4 bytes) (s .1) size (s .4) in
-    condition-bytes slot bytes (s .0) (omega arith) (s .3)
-    ∙ ap (λ (l : List ℕ). conditionBytes (s .0) ++ l) later
-    ∙ ap conditionsBytes (sym (s .2))
+  -- and their bytes are those that were lent
+  conditions-bytes : (slot count : ℕ) (bytes : List ℕ) (cs : List Condition) → length bytes ≡ recordSize form * count
+      → readConditions form p slot count bytes ≡ accepted cs → bytes ≡ conditionsBytes form cs
+  unfolding readConditions conditionsBytes
+  conditions-bytes slot zero [] cs l e = rw (← accepted-same e) refl
+  conditions-bytes slot zero (b ∷ bytes) cs l e = absurd (omega arith)
+  conditions-bytes slot (suc count) bytes cs l e =
+      let s = conditions-cons slot count bytes cs e in
+      let size : length (drop (recordSize form) bytes) ≡ recordSize form * count = rw length-drop (omega arith) in
+      let later = conditions-bytes (slot + s .0 .digits) count (drop (recordSize form) bytes) (s .1) size (s .4) in
+      condition-bytes slot bytes (s .0) (omega arith) (says form p slot bytes (s .0) (s .3))
+      ∙ ap (λ (l : List ℕ). conditionBytes form (s .0) ++ l) later
+      ∙ ap (conditionsBytes form) (sym (s .2))
 
 -- every rule that accepted bytes have passed, and what was read
 pub record Reads (bytes : List ℕ) (card : Card) : Type 0 where
-  pub mark : (byte bytes 0 ≡ cardMark .opening) × (byte bytes 1 ≡ cardMark .closing)
+  pub mark : (byte bytes 0 ≡ headMarkOf (card .form) .opening) × (byte bytes 1 ≡ headMarkOf (card .form) .closing)
   pub prime : card .prime ≡ byte bytes 2
   pub weight : card .weight ≡ byte bytes 3
   pub count : length (card .conditions) ≡ byte bytes 4
   pub spare : byte bytes 5 ≡ 0
-  pub size : length bytes ≡ 6 + 4 * byte bytes 4
-  pub conditions : readConditions 0 (byte bytes 4) (drop 6 bytes) ≡ accepted (card .conditions)
+  pub size : length bytes ≡ headSize + recordSize (card .form) * byte bytes 4
+  pub conditions : readConditions (card .form) (card .prime) 0 (byte bytes 4) (drop headSize bytes) ≡ accepted (card .conditions)
   pub kept : Keeps card
 
 pub reads : (bytes : List ℕ) (card : Card) → readCard bytes ≡ accepted card → Reads bytes card
 reads bytes card e =
     let answer : Answer Card → Answer Card = λ r. r in
-    let least = passed answer (ltb (length bytes) 6) (refused 1) _ refl e in
-    let mark = passed answer (wrongMark cardMark bytes) (refused 2) _ refl (least .1) in
-    let prime = passed answer (not (listed (byte bytes 2))) (refused 3) _ refl (mark .1) in
+    let least = passed answer (ltb (length bytes) headSize) (refused 1) _ refl e in
+    let found = answered (formOf bytes) (λ form. readFormed form bytes) (least .1) in
+    let form = found .0 in
+    let prime = passed answer (not (listed (byte bytes 2))) (refused 3) _ refl (found .2) in
     let weight = passed answer (wrongWeight (byte bytes 3)) (refused 4) _ refl (prime .1) in
     let spare = passed answer (not (eqb (byte bytes 5) 0)) (refused 5) _ refl (weight .1) in
     let count = passed answer (wrongConditionCount (byte bytes 4)) (refused 6) _ refl (spare .1) in
-    let size = passed answer (not (eqb (length bytes) (6 + 4 * byte bytes 4))) (refused 7) _ refl (count .1) in
-    let conditions = answered (readConditions 0 (byte bytes 4) (drop 6 bytes)) (readSlots (byte bytes 2) (byte bytes 3)) (size .1) in
+    let size = passed answer (not (eqb (length bytes) (headSize + recordSize form * byte bytes 4))) (refused 7) _ refl (count .1) in
+    let conditions = answered (readConditions form (byte bytes 2) 0 (byte bytes 4) (drop headSize bytes)) (readSlots form (byte bytes 2) (byte bytes 3)) (size .1) in
     let slots = passed answer (ltb mostDigits (slotsOf (conditions .0))) (refused 10) _ refl (conditions .2) in
-    let same : record { prime = byte bytes 2; weight = byte bytes 3; conditions = conditions .0 } ≡ card = accepted-same (slots .1) in
-    let placed = conditions-placed 0 (byte bytes 4) (drop 6 bytes) (conditions .0) (conditions .1) in
+    let same : record { form = form; prime = byte bytes 2; weight = byte bytes 3; conditions = conditions .0 } ≡ card = accepted-same (slots .1) in
+    let placed = conditions-placed form (byte bytes 2) 0 (byte bytes 4) (drop headSize bytes) (conditions .0) (conditions .1) in
     rw (← same) (record {
-      mark = mark-is cardMark bytes (mark .0);
+      mark = mark-is (headMarkOf form) bytes (form-marked bytes form (found .1));
       prime = refl;
       weight = refl;
       count = placed .0;
@@ -244,8 +248,8 @@ reads bytes card e =
 
 pub card-bytes : (bytes : List ℕ) (card : Card) → Reads bytes card → bytes ≡ cardBytes card
 card-bytes bytes card r =
-    let size : length (drop 6 bytes) ≡ 4 * byte bytes 4 = rw length-drop (omega (arith, r .size)) in
-    let conditions = conditions-bytes 0 (byte bytes 4) (drop 6 bytes) (card .conditions) size (r .conditions) in
+    let size : length (drop headSize bytes) ≡ recordSize (card .form) * byte bytes 4 = rw length-drop (omega (arith, r .size)) in
+    let conditions = conditions-bytes (card .form) (card .prime) 0 (byte bytes 4) (drop headSize bytes) (card .conditions) size (r .conditions) in
     six bytes (omega (arith, r .size)) ∙ rw (r .mark .0, r .mark .1, r .prime, r .weight, r .count, r .spare, conditions)
 
 pub only-cards : OnlyCards

@@ -2,28 +2,22 @@
 use Prim.Native.Nat.{ℕ, _+_}
 use mathlib.Core.Bool.{Bool, true, not, _&&_, _||_}
 use mathlib.Core.List.{List, [], _∷_, _++_, map}
-use lib.Dec.{ltb, eqb}
+use lib.Dec.{ltb}
 use lib.ListN.{length}
 use Rattle.field.specs.Primes.{listed}
 use Rattle.field.specs.Sum.{total}
 use Rattle.digits.specs.Number.{mostDigits, wrongCount}
-use Rattle.circuit.specs.Bytes.{Mark, marked}
+use Rattle.circuit.specs.Bytes.{marked}
 use Rattle.circuit.specs.Table.{wrongWeight}
 use Rattle.comparison.specs.Condition.{Condition}
 use Rattle.comparison.specs.Relation.{relationNumber}
+use Rattle.query.specs.Form.{Form, headMarkOf, recordMarkOf, tailBytes, keepsTail}
 
 pub record Card : Type 0 where
+  pub form : Form
   pub prime : ℕ
   pub weight : ℕ
   pub conditions : List Condition
-
--- the byte pair 0xC5 0x48
-abbrev pub cardMark : Mark
-cardMark = record { opening = 0xC5; closing = 0x48 }
-
--- the byte pair 0xC5 0x51
-abbrev pub conditionMark : Mark
-conditionMark = record { opening = 0xC5; closing = 0x51 }
 
 -- "condition count c (1 to 8)"
 abbrev pub mostConditions : ℕ
@@ -36,24 +30,25 @@ wrongConditionCount c = ltb c 1 || ltb mostConditions c
 abbrev pub slotsOf : List Condition → ℕ
 slotsOf conditions = total (map (λ (c : Condition). c .digits) conditions)
 
--- "4 bytes: mark 0xC5 0x51, relation, n"
-abbrev pub conditionBytes : Condition → List ℕ
-conditionBytes c = marked conditionMark (relationNumber (c .relation) ∷ c .digits ∷ [])
+-- "4 bytes: mark 0xC5 0x51, relation, n", and what the form has after n
+abbrev pub conditionBytes : Form → Condition → List ℕ
+conditionBytes form c = marked (recordMarkOf form) (relationNumber (c .relation) ∷ c .digits ∷ tailBytes form c)
 
-unfoldable pub conditionsBytes : List Condition → List ℕ
-conditionsBytes [] = []
-conditionsBytes (c ∷ cs) = conditionBytes c ++ conditionsBytes cs
+unfoldable pub conditionsBytes : Form → List Condition → List ℕ
+conditionsBytes form [] = []
+conditionsBytes form (c ∷ cs) = conditionBytes form c ++ conditionsBytes form cs
 
--- "Head, 6 bytes: mark 0xC5 0x48, p, weight s, condition count c, spare 0. Then c condition records"
+-- "Head, 6 bytes: mark 0xC5 0x48, p, weight s .., condition count c .., spare 0. Then c condition records", with the marks of the form
 abbrev pub cardBytes : Card → List ℕ
 cardBytes card =
-    marked cardMark (card .prime ∷ card .weight ∷ length (card .conditions) ∷ 0 ∷ []) ++ conditionsBytes (card .conditions)
+    marked (headMarkOf (card .form)) (card .prime ∷ card .weight ∷ length (card .conditions) ∷ 0 ∷ [])
+    ++ conditionsBytes (card .form) (card .conditions)
 
--- each has 1 to 16 digits, and the slots after those of the conditions before it
-unfoldable pub inSlots : ℕ → List Condition → Bool
-inSlots slot [] = true
-inSlots slot (c ∷ cs) =
-    not (wrongCount (c .digits)) && (eqb (c .left) slot && (eqb (c .right) slot && inSlots (slot + c .digits) cs))
+-- each has 1 to 16 digits and what its form asks, with the slots after those of the conditions before it
+unfoldable pub inSlots : Form → ℕ → ℕ → List Condition → Bool
+inSlots form p slot [] = true
+inSlots form p slot (c ∷ cs) =
+    not (wrongCount (c .digits)) && (keepsTail form p slot c && inSlots form p (slot + c .digits) cs)
 
 -- every rule is kept
 abbrev pub keepsRules : Card → Bool
@@ -61,4 +56,4 @@ keepsRules card =
     listed (card .prime)
     && (not (wrongWeight (card .weight))
     && (not (wrongConditionCount (length (card .conditions)))
-    && (inSlots 0 (card .conditions) && not (ltb mostDigits (slotsOf (card .conditions))))))
+    && (inSlots (card .form) (card .prime) 0 (card .conditions) && not (ltb mostDigits (slotsOf (card .conditions))))))

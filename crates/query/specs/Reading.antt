@@ -12,45 +12,47 @@ use Rattle.circuit.specs.Bytes.{byte, wrongMark}
 use Rattle.circuit.specs.Table.{wrongWeight}
 use Rattle.comparison.specs.Condition.{Condition}
 use Rattle.comparison.specs.Relation.{Relation, relations}
-use Rattle.query.specs.Card.{Card, cardMark, conditionMark, wrongConditionCount, slotsOf}
+use Rattle.query.specs.Card.{Card, wrongConditionCount, slotsOf}
+use Rattle.query.specs.Form.{headSize, Form, recordMarkOf, recordSize, formOf, readTail}
 
--- "Each condition takes the next n slots on both sides.": those from slot on
-abbrev pub conditionAt : ℕ → Relation → ℕ → Condition
-conditionAt slot r n = record { relation = r; digits = n; left = slot; right = slot }
+-- "9 n", then the rules of the form, if it adds any
+abbrev pub readCounted : Form → ℕ → ℕ → Relation → List ℕ → Answer Condition
+readCounted form p slot r bytes = refuse (wrongCount (byte bytes 3)) (refused 9) (readTail form p slot r (byte bytes 3) bytes)
 
--- "9 n", or the condition
-abbrev pub countedAs : ℕ → Relation → ℕ → Answer Condition
-countedAs slot r n = refuse (wrongCount n) (refused 9) (accepted (conditionAt slot r n))
-
--- "then by condition 2 mark, 8 relation, 9 n": the record that the bytes begin with
-abbrev pub readCondition : ℕ → List ℕ → Answer Condition
-readCondition slot bytes =
-    refuse (wrongMark conditionMark bytes) (refused 2)
-    (onAnswer (numbered 8 (byte bytes 2) relations) refused (λ relation. countedAs slot relation (byte bytes 3)))
+-- "then by condition 2 mark, 8 relation, 9 n": the record that the bytes begin with, where slot is the next that is free
+abbrev pub readCondition : Form → ℕ → ℕ → List ℕ → Answer Condition
+readCondition form p slot bytes =
+    refuse (wrongMark (recordMarkOf form) bytes) (refused 2)
+    (onAnswer (numbered 8 (byte bytes 2) relations) refused (λ relation. readCounted form p slot relation bytes))
 
 -- the conditions of the next records
-unfoldable pub readConditions : ℕ → ℕ → List ℕ → Answer (List Condition)
-readConditions slot zero bytes = accepted []
-readConditions slot (suc count) bytes =
-    onAnswer (readCondition slot bytes) refused (λ c.
-    onAnswer (readConditions (slot + c .digits) count (drop 4 bytes)) refused (λ cs. accepted (c ∷ cs)))
+unfoldable pub readConditions : Form → ℕ → ℕ → ℕ → List ℕ → Answer (List Condition)
+readConditions form p slot zero bytes = accepted []
+readConditions form p slot (suc count) bytes =
+    onAnswer (readCondition form p slot bytes) refused (λ c.
+    onAnswer (readConditions form p (slot + c .digits) count (drop (recordSize form) bytes)) refused (λ cs. accepted (c ∷ cs)))
 
 -- "then 10 N over 16", or what was read
 abbrev pub withinSlots : {A : Type 0} → ℕ → A → Answer A
 withinSlots slots read = refuse (ltb mostDigits slots) (refused 10) (accepted read)
 
-abbrev pub readSlots : ℕ → ℕ → List Condition → Answer Card
-readSlots p s conditions = withinSlots (slotsOf conditions) (record { prime = p; weight = s; conditions = conditions })
+abbrev pub readSlots : Form → ℕ → ℕ → List Condition → Answer Card
+readSlots form p s conditions =
+    withinSlots (slotsOf conditions) (record { form = form; prime = p; weight = s; conditions = conditions })
 
--- "1 card under 6 bytes; 2 head mark; 3 p not listed; 4 s; 5 spare not 0; 6 c; 7 length not 6+4c; then by condition"
-abbrev pub readCard : List ℕ → Answer Card
-readCard bytes =
+-- "3 p not listed; 4 s; 5 spare not 0; 6 c; 7 length not 6+4c; then by condition": a card whose form is known, and so its records' size
+abbrev pub readFormed : Form → List ℕ → Answer Card
+readFormed form bytes =
+    let p = byte bytes 2 in
     let count = byte bytes 4 in
-    refuse (ltb (length bytes) 6) (refused 1)
-    (refuse (wrongMark cardMark bytes) (refused 2)
-    (refuse (not (listed (byte bytes 2))) (refused 3)
+    refuse (not (listed p)) (refused 3)
     (refuse (wrongWeight (byte bytes 3)) (refused 4)
     (refuse (not (eqb (byte bytes 5) 0)) (refused 5)
     (refuse (wrongConditionCount count) (refused 6)
-    (refuse (not (eqb (length bytes) (6 + 4 * count))) (refused 7)
-    (onAnswer (readConditions 0 count (drop 6 bytes)) refused (readSlots (byte bytes 2) (byte bytes 3)))))))))
+    (refuse (not (eqb (length bytes) (headSize + recordSize form * count))) (refused 7)
+    (onAnswer (readConditions form p 0 count (drop headSize bytes)) refused (readSlots form p (byte bytes 3)))))))
+
+-- "1 card under 6 bytes; 2 head mark", then what its form asks
+abbrev pub readCard : List ℕ → Answer Card
+readCard bytes =
+    refuse (ltb (length bytes) headSize) (refused 1) (onAnswer (formOf bytes) refused (λ form. readFormed form bytes))

@@ -202,29 +202,29 @@ pub fn multiply(table: &mut [u8], pen: Pen, a: Node, b: Node) -> Written
 }
 
 // A term of a sum: the SCALE of a gate by a constant.
-pub fn put_term(table: &mut [u8], pen: Pen, scaled: u16, constant: u8) -> Pen
+pub fn put_term(table: &mut [u8], pen: Pen, operand: u16, constant: u8) -> Pen
     requires { ⌜ Room (now table) pen 1 ⌝ }
-    ensures wrote { λ r. ⌜ Wrote (now (table .entry)) pen (Scale scaled constant ∷ []) (now (table .exit)) r ⌝ }
+    ensures wrote { λ r. ⌜ Wrote (now (table .entry)) pen (Scale operand constant ∷ []) (now (table .exit)) r ⌝ }
     ensures moves { λ r. ⌜ Moved pen 1 r ⌝ }
 {
-    put_scale(table, pen, scaled, constant as u16)
+    put_scale(table, pen, operand, constant as u16)
 }
 
 // A term, and the sum with it.
-pub fn add_term(table: &mut [u8], pen: Pen, sum: Node, scaled: Node, constant: u8) -> Written
+pub fn add_term(table: &mut [u8], pen: Pen, sum: Node, operand: Node, constant: u8) -> Written
     requires { ⌜ Room (now table) pen 2 ⌝ }
-    ensures wrote { λ r. ⌜ Wrote (now (table .entry)) pen (Scale (scaled .gate) constant ∷ Add (sum .gate) (pen .next) ∷ []) (now (table .exit)) (r .pen) ⌝ }
+    ensures wrote { λ r. ⌜ Wrote (now (table .entry)) pen (Scale (operand .gate) constant ∷ Add (sum .gate) (pen .next) ∷ []) (now (table .exit)) (r .pen) ⌝ }
     ensures moves { λ r. ⌜ Moved pen 2 (r .pen) ⌝ }
-    ensures deepens { λ r. ⌜ (r .node .gate ≡ pen .next + 1) × (r .node .depth ≡ max (sum .depth) (scaled .depth)) ⌝ }
+    ensures deepens { λ r. ⌜ (r .node .gate ≡ pen .next + 1) × (r .node .depth ≡ max (sum .depth) (operand .depth)) ⌝ }
 {
-    let term = put_term(table, pen, scaled.gate, constant);
+    let term = put_term(table, pen, operand.gate, constant);
     let gate = term.next;
     let added = put_add(table, term, sum.gate, pen.next);
     Written {
         pen: added,
         node: Node {
             gate,
-            depth: answer::deeper(sum.depth, scaled.depth),
+            depth: answer::deeper(sum.depth, operand.depth),
         },
     }
 }

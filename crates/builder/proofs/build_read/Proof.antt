@@ -22,7 +22,7 @@ returns : tie.Need-returns
 returns c =
     let f = c .before .before in
     let s = f .before .before .before in
-    no-room (s .args .card .now) (s .args .table .now) _ _ (s .pre) (f .forecast-read .ensures) (omega arith)
+    no-room (s .args .card .now) (s .args .table .now) (s .args .head) _ (s .pre) (f .forecast-read .ensures) (omega arith)
 
 slice-aggregate-write-table : tie.Need-slice-aggregate-write-table
 slice-aggregate-write-table c = search needs
@@ -40,7 +40,7 @@ write-table-requires : tie.Need-write-table-requires
 write-table-requires c κs =
     let f = c .before .before .before .before .before .before .before in
     let s = f .before .before .before in
-    (buildable (s .args .card .now) (s .args .table .now) _ _ (s .pre) (f .forecast-read .ensures) (omega arith), omega arith)
+    (buildable (s .args .card .now) (s .args .table .now) (s .args .head) _ (s .pre) (f .forecast-read .ensures) (omega arith), omega arith)
 
 same-length : tie.Need-same-length
 same-length c = search needs

@@ -1,70 +1,37 @@
 -- `builder::has_order` meets its contract. The invariant is `Seeks`: one of the conditions compares by order exactly where one of those
 -- that are left does. The measure is how many are left.
 -- Assumes nothing.
-use mathlib.Core.Path.{_≡_, sym, ap, _∙_}
-use Prim.Native.Nat.{_-_, _<_}
+use mathlib.Core.Path.{_≡_, refl, sym, _∙_}
+use Prim.Native.Nat.{_+_, _-_, _≤_}
+use native.Mathlib.Omega.{arith}
 use borrow.Author.Needs.{needs}
-use Rattle.answer.specs.Outcome.{accepted}
-use Rattle.comparison.specs.Condition.{Condition}
-use Rattle.query.specs.Reading.{conditionAt, readCondition}
-use Rattle.relations.specs.Relations.{relationIs}
-use Rattle.card.specs.Parts.{conditionAnswer}
-use Rattle.card.proofs.Conditions.{lentAt, lent-long}
-use Rattle.builder.proofs.Rest.{unrefused}
-use Rattle.builder.proofs.Orders.{Seeks, starts, finishes, found, passed}
+use lib.ListN.{take}
+use Rattle.digits.specs.Number.{mostDigits}
+use Rattle.query.specs.Card.{slotsOf}
+use Rattle.card.specs.Conditions.{conditionsOf}
+use Rattle.card.proofs.ReadAs.{as-many, slots-none, slots-after}
+use Rattle.builder.proofs.Orders.{Seeks, finishes, own-order, passed}
 use Rattle.builder.proofs.has_order.Statement.{statement}
 use Rattle.builder.proofs.has_order.Tie as tie
 
 abbrev Inv-loop : tie.InvT-loop
-Inv-loop records count k₀ k = Seeks records count k
+Inv-loop card head count slot₀ k₀ slot k = Seeks (conditionsOf card) k × (slot ≡ slotsOf (take k (conditionsOf card)))
 
 abbrev μ-loop : tie.MeasureT-loop
-μ-loop records count k₀ k = count - k
+μ-loop card head count slot₀ k₀ slot k = count - k
 
--- where the function and the turn began
 abbrev start : tie.At-loop Inv-loop μ-loop → tie.Start Inv-loop μ-loop
-start l = l .before .before
+start l = l .before .before .before
 
-abbrev turn : tie.After-relation Inv-loop μ-loop → tie.At-loop Inv-loop μ-loop
-turn c = c .before .before .before .before .before
-
--- the condition that was read
-abbrev condition : tie.After-relation Inv-loop μ-loop → Condition
-condition c = conditionAt (turn c .loop .inv .slot) (relationIs (c .relation .given .0 .0)) (c .relation .given .0 .1 .0)
-
-read : (c : tie.After-relation Inv-loop μ-loop) → (
-    let l = turn c in accepted (condition c) ≡ readCondition (l .loop .inv .slot) (lentAt (start l .args .records .now) (l .loop .k))
-    )
-read c =
-    let slot = turn c .loop .inv .slot in
-    sym (ap (conditionAnswer slot) (c .relation .given .1)) ∙ c .before .before .read-condition .ensures slot
-
-less : (c : tie.After-relation Inv-loop μ-loop) → (let l = turn c in l .loop .k < start l .args .count)
-less c = c .before .before .before .before .loop-test .taken
+wide-requires : tie.Need-wide-requires Inv-loop μ-loop
+wide-requires c κs = search needs
 
 loop-holds : tie.Need-loop-holds Inv-loop μ-loop
-loop-holds c = starts _ _ (c .before .pre)
+loop-holds c = (refl, slots-none (conditionsOf (c .before .before .args .card .now)))
 
-mul-at : tie.Need-mul-at Inv-loop μ-loop
-mul-at c = search needs
-
-sub-read-condition : tie.Need-sub-read-condition Inv-loop μ-loop
-sub-read-condition c = search needs
-
-part-read-condition-start : tie.Need-part-read-condition-start Inv-loop μ-loop
-part-read-condition-start c = search needs
-
-part-read-condition-end : tie.Need-part-read-condition-end Inv-loop μ-loop
-part-read-condition-end c = search needs
-
-read-condition-requires : tie.Need-read-condition-requires Inv-loop μ-loop
-read-condition-requires c κs =
-    let l = c .before .before in
-    let s = start l in
-    lent-long (s .args .records .now) (s .args .count) (l .loop .k) (s .pre .long) (c .before .loop-test .taken)
-
-enum-known-relation : tie.Need-enum-known-relation Inv-loop μ-loop
-enum-known-relation c = search needs
+record-at-requires : tie.Need-record-at-requires Inv-loop μ-loop
+record-at-requires c κs =
+    let l = c .before in (start l .pre, omega (arith, c .loop-test .taken, l .before .wide .ensures), l .loop .inv .1)
 
 is-order-requires : tie.Need-is-order-requires Inv-loop μ-loop
 is-order-requires c κs = search needs
@@ -72,19 +39,24 @@ is-order-requires c κs = search needs
 returns : tie.Need-returns Inv-loop μ-loop
 returns c =
     let o = c .before in
-    let r = o .before .before in
-    found _ _ _ (less r) (turn r .loop .inv) (condition r) (read r) _ (o .is-order .ensures) (c .if1 .taken)
+    let r = o .before in
+    let l = r .before .before in
+    sym (own-order (conditionsOf (start l .args .card .now)) (l .loop .k) (r .record-at .result) (r .record-at .ensures) (sym (o .is-order .ensures) ∙ c .if1 .taken))
 
-enum-told : tie.Need-enum-told Inv-loop μ-loop
-enum-told c = search needs
+-- the slots that are taken then
+taken : (r : tie.After-record-at Inv-loop μ-loop) → (
+    let l = r .before .before in
+    let next = l .loop .slot + r .record-at .result .digits in
+    (next ≡ slotsOf (take (l .loop .k + 1) (conditionsOf (start l .args .card .now)))) × (next ≤ mostDigits)
+    )
+taken r =
+    let l = r .before .before in
+    let s = start l in
+    slots-after (s .args .card .now) (s .args .head) (l .loop .k) (l .loop .slot) (r .record-at .result) (s .pre) (l .loop .inv .1) (r .record-at .ensures)
 
-returns-2 : tie.Need-returns-2 Inv-loop μ-loop
-returns-2 c =
-    let r = c .before .before in
-    let l = r .before .before .before in
-    let i = l .loop .inv in
-    absurd (unrefused _ _ _ _ _ (r .before .before .loop-test .taken) (i .reads) _
-    (sym (ap (conditionAnswer (i .slot)) (c .enum-told .given .1)) ∙ r .read-condition .ensures (i .slot)))
+add-slot : tie.Need-add-slot Inv-loop μ-loop
+add-slot c =
+    let r = c .before .before .before in omega (arith, taken r .1)
 
 add-k : tie.Need-add-k Inv-loop μ-loop
 add-k c = search needs
@@ -94,12 +66,18 @@ loop-less c = search needs
 
 loop-again : tie.Need-loop-again Inv-loop μ-loop
 loop-again c =
-    let o = c .before in
-    let r = o .before .before in
-    passed _ _ _ (less r) (turn r .loop .inv) (condition r) (read r) _ (o .is-order .ensures) (c .if1 .left)
+    let e = c .before in
+    let o = e .before in
+    let r = o .before in
+    let l = r .before .before in
+    let cs = conditionsOf (start l .args .card .now) in
+    (passed cs (l .loop .k) (r .record-at .result) (r .record-at .ensures) (sym (o .is-order .ensures) ∙ e .if1 .left) (l .loop .inv .0), taken r .0)
 
-returns-3 : tie.Need-returns-3 Inv-loop μ-loop
-returns-3 c = finishes _ _ _ (c .loop-test .left) (c .before .loop .inv)
+returns-2 : tie.Need-returns-2 Inv-loop μ-loop
+returns-2 c =
+    let l = c .before in
+    let s = start l in
+    finishes (conditionsOf (s .args .card .now)) (l .loop .k) (omega (arith, c .loop-test .left, l .before .wide .ensures, as-many (s .args .card .now) (s .args .head) (s .pre))) (l .loop .inv .0)
 
 pub has-order-spec : {M : Type 1} → statement M
 has-order-spec =
@@ -107,18 +85,13 @@ has-order-spec =
     (tie.spec
     Inv-loop
     μ-loop
+    wide-requires
     loop-holds
-    mul-at
-    sub-read-condition
-    part-read-condition-start
-    part-read-condition-end
-    read-condition-requires
-    enum-known-relation
+    record-at-requires
     is-order-requires
     returns
-    enum-told
-    returns-2
+    add-slot
     add-k
     loop-less
     loop-again
-    returns-3)
+    returns-2)

@@ -2,18 +2,36 @@
 -- Assumes nothing.
 use mathlib.Core.Path.{_≡_, sym, _∙_}
 use mathlib.Core.Bool.{false, true≢false}
+use native.Mathlib.Omega.{arith}
 use borrow.Author.Needs.{needs}
+use Rattle.builder.proofs.Prime.{Suits, prime-suits}
 use Rattle.builder.proofs.prepare_order.Statement.{statement}
 use Rattle.builder.proofs.prepare_order.Tie as tie
+
+-- ---- the stages, and what is known of the prime
+
+abbrev start : tie.After-has-order → tie.Start
+start o = o .before .before .before .before
+
+abbrev constants : tie.After-put-power-depths-arg → tie.After-put-order-constants
+constants c = c .before .before .before .before
+
+suits : (s : tie.Start) → Suits (s .args .head .prime)
+suits s = prime-suits (s .args .card .now) (s .args .head) (s .pre .0)
 
 has-order-requires : tie.Need-has-order-requires
 has-order-requires c κs = search needs
 
 put-order-constants-requires : tie.Need-put-order-constants-requires
-put-order-constants-requires c κs = search needs
+put-order-constants-requires c κs =
+    let s = start (c .before .before) in omega (arith, suits s, s .pre)
+
+cast-put-power-depths : tie.Need-cast-put-power-depths
+cast-put-power-depths c = search needs
 
 put-power-depths-requires : tie.Need-put-power-depths-requires
-put-power-depths-requires c κs = search needs
+put-power-depths-requires c κs =
+    let s = start (constants c .before .before .before) in (suits s .0, omega (arith, suits s, s .pre))
 
 same-length : tie.Need-same-length
 same-length c = search needs
@@ -22,7 +40,15 @@ same-length-2 : tie.Need-same-length-2
 same-length-2 c = search needs
 
 returns : tie.Need-returns
-returns c = search needs
+returns c asked =
+    let d = c .before .before in
+    let o = constants (d .before) in
+    let s = start (o .before .before .before) in
+    record {
+      scaled = record { later = _; begins = o .put-order-constants .ensures };
+      long = omega (arith, suits s, s .pre, d);
+      deep = d .put-power-depths .ensures;
+    }
 
 returns-2 : tie.Need-returns-2
 returns-2 c asked =
@@ -35,6 +61,7 @@ prepare-order-spec =
     (tie.spec
     has-order-requires
     put-order-constants-requires
+    cast-put-power-depths
     put-power-depths-requires
     same-length
     same-length-2

@@ -1,187 +1,184 @@
--- `builder::put_conditions` meets its contract. The invariant is `Adds`: what is written is a draft, and the conditions that are left make it the draft of all.
--- The measure is how many are left.
+-- `builder::put_conditions` meets its contract. The invariant is `Adds`: what is written is the draft so far, and the conditions that are
+-- left make it the draft of all. The measure is how many are left.
 -- Assumes nothing.
 use mathlib.Core.Path.{_≡_, refl, sym, ap, _∙_}
-use Prim.Native.Nat.{_+_, _-_, _≤_, _<_}
+use Prim.Native.Nat.{ℕ, _+_, _-_, _<_, _≤_, zero-le}
 use native.Mathlib.Omega.{arith}
 use borrow.Author.Needs.{needs}
-use lib.ListN.{length, length-set}
-use Rattle.answer.specs.Outcome.{accepted}
-use Rattle.comparison.specs.Condition.{Condition, HasSlots}
+use lib.ListN.{length, take, length-set}
 use Rattle.digits.specs.Number.{mostDigits}
+use Rattle.comparison.specs.Condition.{Condition, HasSlots}
 use Rattle.comparison.specs.Writing.{conditionSegment}
-use Rattle.query.specs.Reading.{conditionAt, readCondition}
-use Rattle.relations.specs.Relations.{relationIs}
-use Rattle.card.specs.Parts.{conditionAnswer}
-use Rattle.card.proofs.Conditions.{lentAt, lent-long}
-use Rattle.builder.specs.Conditions.{conditionsOf, drafted}
-use Rattle.builder.proofs.Adding.{Adds, begins, ends, in-slots, fits, own-order, adds}
-use Rattle.builder.proofs.Rest.{unrefused}
+use Rattle.query.specs.Card.{mostConditions}
+use Rattle.card.specs.Conditions.{conditionsOf}
+use Rattle.card.specs.Parts.{recordIs}
+use Rattle.card.proofs.ReadAs.{as-many, record-slotted, slots-after}
+use Rattle.tree.specs.Factors.{nodes}
+use Rattle.builder.specs.Conditions.{drafted}
+use Rattle.builder.proofs.Adding.{Adds, begins, ends, fits, adds}
+use Rattle.builder.proofs.Orders.{own-order}
+use Rattle.builder.proofs.Prime.{prime-suits}
 use Rattle.builder.proofs.put_conditions.Statement.{statement}
 use Rattle.builder.proofs.put_conditions.Tie as tie
 
 abbrev Inv-loop : tie.InvT-loop
-Inv-loop records count p table₀ constants powers gates₀ depths₀ pen₀ slot₀ k₀ table gates depths pen slot k =
-    Adds p records count table₀ table pen slot k gates depths
+Inv-loop card head table₀ constants powers gates₀ depths₀ p count pen₀ slot₀ k₀ table gates depths pen slot k =
+    Adds (head .prime) (conditionsOf card) table₀ table pen slot k gates depths
+    × (k ≤ count)
     × (length table ≡ length table₀)
     × (length gates ≡ length gates₀)
     × (length depths ≡ length depths₀)
 
 abbrev μ-loop : tie.MeasureT-loop
-μ-loop records count p table₀ constants powers gates₀ depths₀ pen₀ slot₀ k₀ table gates depths pen slot k = count - k
+μ-loop card head table₀ constants powers gates₀ depths₀ p count pen₀ slot₀ k₀ table gates depths pen slot k = count - k
 
--- where the function and the turn began
-abbrev start : tie.At-loop Inv-loop μ-loop → tie.Start Inv-loop μ-loop
-start l = l .before .before .before .before .before .before .before .before
+-- ---- the stages, and what is known at them
 
-abbrev turn : tie.After-relation Inv-loop μ-loop → tie.At-loop Inv-loop μ-loop
-turn c = c .before .before .before .before .before
+abbrev start : tie.After-wide Inv-loop μ-loop → tie.Start Inv-loop μ-loop
+start w = w .before .before .before .before .before .before .before .before
 
--- the condition that was read
-abbrev condition : tie.After-relation Inv-loop μ-loop → Condition
-condition c = conditionAt (turn c .loop .slot) (relationIs (c .relation .given .0 .0)) (c .relation .given .0 .1 .0)
+abbrev begun : tie.At-loop Inv-loop μ-loop → tie.After-wide Inv-loop μ-loop
+begun l = l .before .before
 
-read : (c : tie.After-relation Inv-loop μ-loop) → (
-    let l = turn c in accepted (condition c) ≡ readCondition (l .loop .slot) (lentAt (start l .args .records .now) (l .loop .k))
+abbrev turn : tie.After-record-at Inv-loop μ-loop → tie.At-loop Inv-loop μ-loop
+turn r = r .before .before
+
+abbrev asked : tie.After-put-condition Inv-loop μ-loop → tie.After-record-at Inv-loop μ-loop
+asked w = w .before .before .before .before .before
+
+-- the condition at hand
+abbrev condition : tie.After-record-at Inv-loop μ-loop → Condition
+condition r = recordIs (r .record-at .result)
+
+-- the count as the code holds it
+many : (w : tie.After-wide Inv-loop μ-loop) → (
+    let s = start w in
+    (w .wide .result ≡ s .args .head .count) × (length (conditionsOf (s .args .card .now)) ≡ s .args .head .count) × (s .args .head .count ≤ mostConditions)
     )
-read c =
-    let slot = turn c .loop .slot in
-    sym (ap (conditionAnswer slot) (c .relation .given .1)) ∙ c .before .before .read-condition .ensures slot
+many w =
+    let s = start w in
+    let all = as-many (s .args .card .now) (s .args .head) (s .pre .reads) in
+    (w .wide .ensures .0, all .0, all .2)
 
-less : (c : tie.After-relation Inv-loop μ-loop) → (let l = turn c in l .loop .k < start l .args .count)
-less c = c .before .before .before .before .loop-test .taken
+less : (r : tie.After-record-at Inv-loop μ-loop) → turn r .loop .k < start (begun (turn r)) .args .head .count
+less r = omega (arith, r .before .loop-test .taken, many (begun (turn r)))
 
-slotted : (c : tie.After-relation Inv-loop μ-loop) → HasSlots mostDigits mostDigits (condition c)
-slotted c =
-    let l = turn c in in-slots _ _ _ _ _ _ _ _ _ _ (less c) (l .loop .inv .0) (condition c) (read c)
+slotted : (r : tie.After-record-at Inv-loop μ-loop) → HasSlots mostDigits mostDigits (condition r)
+slotted r =
+    let l = turn r in
+    let s = start (begun l) in
+    record-slotted (s .args .card .now) (s .args .head) (l .loop .k) (r .record-at .result) (s .pre .reads) (r .record-at .ensures)
 
-fit : (c : tie.After-relation Inv-loop μ-loop) → (
-    let l = turn c in
-    let p = start l .args .p in
-    l .loop .pen .next + length (conditionSegment p (condition c) (l .loop .pen .next) .gates) ≤ length (drafted p (conditionsOf (start l .args .count) (start l .args .records .now)) .gates)
+fit : (r : tie.After-record-at Inv-loop μ-loop) → (
+    let l = turn r in
+    let s = start (begun l) in
+    let p = s .args .head .prime in
+    l .loop .pen .next + length (conditionSegment p (condition r) (l .loop .pen .next) .gates) ≤ length (drafted p (conditionsOf (s .args .card .now)) .gates)
     )
-fit c =
-    let l = turn c in fits _ _ _ _ _ _ _ _ _ _ (less c) (l .loop .inv .0) (condition c) (read c)
+fit r = fits _ _ _ _ _ _ _ _ _ (turn r .loop .inv .0) (r .record-at .result) (r .record-at .ensures)
+
+-- ---- the needs
+
+cast-p : tie.Need-cast-p Inv-loop μ-loop
+cast-p c = search needs
+
+wide-requires : tie.Need-wide-requires Inv-loop μ-loop
+wide-requires c κs = search needs
 
 new-pen-requires : tie.Need-new-pen-requires Inv-loop μ-loop
 new-pen-requires c κs = search needs
 
 loop-holds : tie.Need-loop-holds Inv-loop μ-loop
-loop-holds c =
-    let s = c .before .before .before .before .before .before .before in
-    (rw (c .new-pen .ensures) (begins (s .args .p) _ _ _ _ _ (s .pre .readable)), refl, refl, refl)
+loop-holds c = (rw (c .new-pen .ensures) (begins _ _ _ _ _), zero-le, refl, refl, refl)
 
-mul-read-condition : tie.Need-mul-read-condition Inv-loop μ-loop
-mul-read-condition c = search needs
+record-at-requires : tie.Need-record-at-requires Inv-loop μ-loop
+record-at-requires c κs =
+    let w = begun (c .before) in (start w .pre .reads, omega (arith, c .loop-test .taken, many w), c .before .loop .inv .0 .slots)
 
-sub-read-condition : tie.Need-sub-read-condition Inv-loop μ-loop
-sub-read-condition c = search needs
+cast-t18 : tie.Need-cast-t18 Inv-loop μ-loop
+cast-t18 c = search needs
 
-part-read-condition-start : tie.Need-part-read-condition-start Inv-loop μ-loop
-part-read-condition-start c = search needs
+cast-t19 : tie.Need-cast-t19 Inv-loop μ-loop
+cast-t19 c = search needs
 
-part-read-condition-end : tie.Need-part-read-condition-end Inv-loop μ-loop
-part-read-condition-end c = search needs
-
-read-condition-requires : tie.Need-read-condition-requires Inv-loop μ-loop
-read-condition-requires c κs =
-    let l = c .before .before in
-    let s = start l in
-    lent-long (s .args .records .now) (s .args .count) (l .loop .k) (s .pre .readable .long) (c .before .loop-test .taken)
-
-enum-known-relation : tie.Need-enum-known-relation Inv-loop μ-loop
-enum-known-relation c = search needs
-
-cast-slot : tie.Need-cast-slot Inv-loop μ-loop
-cast-slot c = search needs
+cast-t20 : tie.Need-cast-t20 Inv-loop μ-loop
+cast-t20 c = search needs
 
 put-condition-requires : tie.Need-put-condition-requires Inv-loop μ-loop
 put-condition-requires c κs =
-    let r = c .before .before in
+    let r = c .before .before .before .before in
     let l = turn r in
-    let s = start l in
-    let order = own-order _ _ _ _ _ _ _ _ _ _ (less r) (l .loop .inv .0) (condition r) (read r) in
-    (omega (arith, fit r, l .loop .inv .0 .counts, l .loop .inv .1, s .pre .room), ((s .pre .modulus, slotted r), λ h. s .pre .ready (order h)))
+    let s = start (begun l) in
+    let modulus = prime-suits (s .args .card .now) (s .args .head) (s .pre .reads) .0 in
+    let order = own-order (conditionsOf (s .args .card .now)) (l .loop .k) (r .record-at .result) (r .record-at .ensures) in
+    (omega (arith, fit r, l .loop .inv .0 .counts, l .loop .inv .2, s .pre .room), ((modulus, slotted r), λ h. s .pre .ready (order h)))
 
 mul-gates : tie.Need-mul-gates Inv-loop μ-loop
 mul-gates c =
-    let r = c .before .before .before .before .before in omega (arith, less r, start (turn r) .pre .readable .few)
+    let r = asked (c .before .before) in omega (arith, less r, many (begun (turn r)))
 
 slice-write-gates : tie.Need-slice-write-gates Inv-loop μ-loop
 slice-write-gates c =
-    let r = c .before .before .before .before .before in
+    let r = asked (c .before .before) in
     let l = turn r in
-    omega (arith, less r, l .loop .inv .2, start l .pre .outputs)
+    omega (arith, less r, l .loop .inv .3, start (begun l) .pre .outputs)
 
 mul-depths : tie.Need-mul-depths Inv-loop μ-loop
 mul-depths c =
-    let r = c .before .before .before .before .before in omega (arith, less r, start (turn r) .pre .readable .few)
+    let r = asked (c .before .before) in omega (arith, less r, many (begun (turn r)))
 
 slice-write-depths : tie.Need-slice-write-depths Inv-loop μ-loop
 slice-write-depths c =
-    let r = c .before .before .before .before .before in
+    let r = asked (c .before .before) in
     let l = turn r in
-    omega (arith, less r, l .loop .inv .3, start l .pre .outputs)
-
-cast-slot-2 : tie.Need-cast-slot-2 Inv-loop μ-loop
-cast-slot-2 c = search needs
+    omega (arith, less r, l .loop .inv .4, start (begun l) .pre .outputs)
 
 add-slot : tie.Need-add-slot Inv-loop μ-loop
-add-slot c = omega (arith, slotted (c .before .before .before .before .before .before))
-
-enum-told : tie.Need-enum-told Inv-loop μ-loop
-enum-told c = search needs
-
-same-length : tie.Need-same-length Inv-loop μ-loop
-same-length c = c .before .before .before .before .before .loop .inv .1
-
-same-length-2 : tie.Need-same-length-2 Inv-loop μ-loop
-same-length-2 c = c .before .before .before .before .before .loop .inv .2
-
-same-length-3 : tie.Need-same-length-3 Inv-loop μ-loop
-same-length-3 c = c .before .before .before .before .before .loop .inv .3
-
-returns : tie.Need-returns Inv-loop μ-loop
-returns c =
-    let r = c .before .before in
-    let l = r .before .before .before in
-    absurd (unrefused _ _ _ _ _ (r .before .before .loop-test .taken) (l .loop .inv .0 .reads) _
-    (sym (ap (conditionAnswer (l .loop .slot)) (c .enum-told .given .1)) ∙ r .read-condition .ensures (l .loop .slot)))
+add-slot c =
+    let r = asked (c .before .before .before .before) in
+    let l = turn r in
+    let s = start (begun l) in
+    let taken = slots-after (s .args .card .now) (s .args .head) (l .loop .k) (l .loop .slot) (r .record-at .result) (s .pre .reads) (l .loop .inv .0 .slots) (r .record-at .ensures) in
+    omega (arith, taken .1)
 
 add-k : tie.Need-add-k Inv-loop μ-loop
 add-k c =
-    let r = c .before .before .before .before .before .before in omega (arith, less r, start (turn r) .pre .readable .few)
+    let r = asked (c .before .before .before .before) in omega (arith, less r, many (begun (turn r)))
 
 loop-less : tie.Need-loop-less Inv-loop μ-loop
 loop-less c = search needs
 
 loop-again : tie.Need-loop-again Inv-loop μ-loop
 loop-again c =
-    let w = c .before .before .before in
-    let r = w .before .before .before in
+    let w = c .before .before .before .before in
+    let r = asked w in
     let l = turn r in
-    let s = start l in
+    let s = start (begun l) in
     let e = w .put-condition .ensures in (
-      adds _ _ _ _ _ _ _ _ _ _ (less r) (l .loop .inv .0) (condition r) (read r) _ _ _ _ (e .0) (e .1 .0) (e .1 .1)
-          (omega (arith, less r, l .loop .inv .2, s .pre .outputs)) (omega (arith, less r, l .loop .inv .3, s .pre .outputs)),
-      omega (arith, l .loop .inv .1, w),
-      length-set (l .loop .gates) (l .loop .k) (w .put-condition .result .node .gate) ∙ l .loop .inv .2,
-      length-set (l .loop .depths) (l .loop .k) (w .put-condition .result .node .depth) ∙ l .loop .inv .3,
+      adds _ _ _ _ _ _ _ _ _ (l .loop .inv .0) (r .record-at .result) (r .record-at .ensures) _ _ _ _ (e .0) (e .1 .0) (e .1 .1)
+          (omega (arith, less r, l .loop .inv .3, s .pre .outputs)) (omega (arith, less r, l .loop .inv .4, s .pre .outputs)),
+      omega (arith, r .before .loop-test .taken),
+      omega (arith, l .loop .inv .2, w),
+      length-set (l .loop .gates) (l .loop .k) (w .put-condition .result .node .gate) ∙ l .loop .inv .3,
+      length-set (l .loop .depths) (l .loop .k) (w .put-condition .result .node .depth) ∙ l .loop .inv .4,
     )
 
-same-length-4 : tie.Need-same-length-4 Inv-loop μ-loop
-same-length-4 c = c .before .loop .inv .1
+same-length : tie.Need-same-length Inv-loop μ-loop
+same-length c = c .before .loop .inv .2
 
-same-length-5 : tie.Need-same-length-5 Inv-loop μ-loop
-same-length-5 c = c .before .loop .inv .2
+same-length-2 : tie.Need-same-length-2 Inv-loop μ-loop
+same-length-2 c = c .before .loop .inv .3
 
-same-length-6 : tie.Need-same-length-6 Inv-loop μ-loop
-same-length-6 c = c .before .loop .inv .3
+same-length-3 : tie.Need-same-length-3 Inv-loop μ-loop
+same-length-3 c = c .before .loop .inv .4
 
-returns-2 : tie.Need-returns-2 Inv-loop μ-loop
-returns-2 c =
-    let e = ends _ _ _ _ _ _ _ _ _ _ (c .loop-test .left) (c .before .loop .inv .0) in
-    (e .0, (e .1, e .2))
+returns : tie.Need-returns Inv-loop μ-loop
+returns c =
+    let l = c .before in
+    let all = many (begun l) in
+    let last : l .loop .k ≡ start (begun l) .args .head .count = omega (arith, c .loop-test .left, l .loop .inv .1, all) in
+    let e = ends _ _ _ _ _ _ _ _ _ (omega (arith, last, all)) (l .loop .inv .0) in
+    (e .0, (e .1, ap (λ (n : ℕ). nodes (take n (l .loop .gates)) (take n (l .loop .depths))) (sym last) ∙ e .2))
 
 pub put-conditions-spec : {M : Type 1} → statement M
 put-conditions-spec =
@@ -189,31 +186,24 @@ put-conditions-spec =
     (tie.spec
     Inv-loop
     μ-loop
+    cast-p
+    wide-requires
     new-pen-requires
     loop-holds
-    mul-read-condition
-    sub-read-condition
-    part-read-condition-start
-    part-read-condition-end
-    read-condition-requires
-    enum-known-relation
-    cast-slot
+    record-at-requires
+    cast-t18
+    cast-t19
+    cast-t20
     put-condition-requires
     mul-gates
     slice-write-gates
     mul-depths
     slice-write-depths
-    cast-slot-2
     add-slot
-    enum-told
-    same-length
-    same-length-2
-    same-length-3
-    returns
     add-k
     loop-less
     loop-again
-    same-length-4
-    same-length-5
-    same-length-6
-    returns-2)
+    same-length
+    same-length-2
+    same-length-3
+    returns)

@@ -2,61 +2,84 @@
 -- with those of the records that are left to read, give the whole answer. The measure is what is left of count.
 -- Assumes nothing.
 use mathlib.Core.Path.{sym, ap, _∙_}
-use Prim.Native.Nat.{_+_, _-_}
+use Prim.Native.Nat.{_+_, _-_, _*_, _≤_}
 use native.Mathlib.Omega.{arith}
 use borrow.Author.Needs.{needs}
-use Rattle.query.specs.Reading.{conditionAt}
-use Rattle.card.specs.Parts.{conditionAnswer, readSlotCount}
-use Rattle.relations.specs.Relations.{relationIs}
-use Rattle.card.proofs.Conditions.{Sums, starts, finishes, refuses, adds, lent-long}
+use lib.ListN.{length}
+use Rattle.circuit.proofs.Records.{lent-whole}
+use Rattle.card.specs.Parts.{formIs, recordIs, recordAnswer, readSlotCount}
+use Rattle.card.proofs.Conditions.{Sums, starts, finishes, refuses, adds, record-within}
 use Rattle.card.proofs.read_conditions.Statement.{statement}
 use Rattle.card.proofs.read_conditions.Tie as tie
 
 abbrev Inv-loop : tie.InvT-loop
-Inv-loop records count slots₀ k₀ slots k = Sums records count k slots (readSlotCount count records)
+Inv-loop records form prime count size slots₀ k₀ slots k =
+    Sums (formIs form) prime records count k slots (readSlotCount (formIs form) prime count records)
 
 abbrev μ-loop : tie.MeasureT-loop
-μ-loop records count slots₀ k₀ slots k = count - k
+μ-loop records form prime count size slots₀ k₀ slots k = count - k
+
+-- where the function began
+abbrev start : tie.At-loop Inv-loop μ-loop → tie.Start Inv-loop μ-loop
+start l = l .before .before .before
+
+-- the next record lies within the bytes
+within : (c : tie.In-loop Inv-loop μ-loop) → (
+    let l = c .before in
+    let size = l .before .record-size .result in
+    size * l .loop .k + size ≤ length (start l .args .records .now)
+    )
+within c =
+    let l = c .before in
+    let a = start l .args in
+    let size = l .before .record-size in
+    omega (arith, record-within (size .result) (a .count) (l .loop .k) (c .loop-test .taken), ap (λ n. n * a .count) (size .ensures), start l .pre .1)
+
+record-size-requires : tie.Need-record-size-requires Inv-loop μ-loop
+record-size-requires c κs = search needs
 
 loop-holds : tie.Need-loop-holds Inv-loop μ-loop
-loop-holds c = starts _ _
+loop-holds c = starts _ _ _ _
 
 mul-at : tie.Need-mul-at Inv-loop μ-loop
-mul-at c = search needs
+mul-at c = omega (arith, within c, start (c .before) .good)
 
-sub-read-condition : tie.Need-sub-read-condition Inv-loop μ-loop
-sub-read-condition c = search needs
+sub-read-record : tie.Need-sub-read-record Inv-loop μ-loop
+sub-read-record c = omega (arith, within c)
 
-part-read-condition-start : tie.Need-part-read-condition-start Inv-loop μ-loop
-part-read-condition-start c = search needs
+part-read-record-start : tie.Need-part-read-record-start Inv-loop μ-loop
+part-read-record-start c = omega (arith, within c)
 
-part-read-condition-end : tie.Need-part-read-condition-end Inv-loop μ-loop
-part-read-condition-end c = search needs
+part-read-record-end : tie.Need-part-read-record-end Inv-loop μ-loop
+part-read-record-end c = search needs
 
-read-condition-requires : tie.Need-read-condition-requires Inv-loop μ-loop
-read-condition-requires c κs =
+read-record-requires : tie.Need-read-record-requires Inv-loop μ-loop
+read-record-requires c κs =
     let l = c .before .before in
-    lent-long (l .before .before .args .records .now) (l .before .before .args .count) (l .loop .k) (l .before .before .pre .1) (c .before .loop-test .taken)
+    omega (arith, l .before .record-size .ensures, lent-whole (start l .args .records .now) (l .before .record-size .result * l .loop .k) (l .before .record-size .result) (within (c .before)))
 
-enum-known-digits : tie.Need-enum-known-digits Inv-loop μ-loop
-enum-known-digits c = search needs
+enum-known-condition : tie.Need-enum-known-condition Inv-loop μ-loop
+enum-known-condition c = search needs
 
 -- what is known once the record's digits are added
 after : (c : tie.After-known-told Inv-loop μ-loop) → (
-    let l = c .before .before .before .before .before .before in
-    let a = l .before .before .args in
-    let x = c .before .digits .given .0 in
-    Inv-loop (a .records .now) (a .count) 0 0 (l .loop .slots + x .1 .0) (l .loop .k + 1)
+    let r = c .before .before .before in
+    let l = r .before .before .before in
+    let a = start l .args in
+    Inv-loop (a .records .now) (a .form) (a .prime) (a .count) (l .before .record-size .result) 0 0
+    (l .loop .slots + c .before .condition .given .0 .0 .digits) (l .loop .k + 1)
     )
 after c =
     let r = c .before .before .before in
     let l = r .before .before .before in
-    let x = c .before .digits .given .0 in
-    adds _ _ _ _ _ (r .before .before .loop-test .taken) (l .loop .inv) (conditionAt (l .loop .slots) (relationIs (x .0)) (x .1 .0))
-    (sym (ap (conditionAnswer (l .loop .slots)) (c .before .digits .given .1)) ∙ r .read-condition .ensures (l .loop .slots))
+    adds _ _ _ _ _ _ _ _ (l .before .record-size .ensures) (r .before .before .loop-test .taken) (l .loop .inv)
+    (recordIs (c .before .condition .given .0 .0)) (sym (ap recordAnswer (c .before .condition .given .1)) ∙ r .read-record .ensures)
 
 add-slots : tie.Need-add-slots Inv-loop μ-loop
-add-slots c = omega (arith, after c .few, after c .most, c .before .before .before .before .before .before .before .before .pre .0)
+add-slots c =
+    let told = after (c .before) in
+    let l = c .before .before .before .before .before .before .before in
+    omega (arith, told .few, told .most, start l .pre .0)
 
 enum-known-why : tie.Need-enum-known-why Inv-loop μ-loop
 enum-known-why c = search needs
@@ -65,8 +88,8 @@ returns : tie.Need-returns Inv-loop μ-loop
 returns c =
     let r = c .before .before .before in
     let l = r .before .before .before in
-    refuses _ _ _ _ _ (r .before .before .loop-test .taken) (l .loop .inv) _
-    (sym (ap (conditionAnswer (l .loop .slots)) (c .before .why .given .1)) ∙ r .read-condition .ensures (l .loop .slots))
+    refuses _ _ _ _ _ _ _ _ (l .before .record-size .ensures) (r .before .before .loop-test .taken) (l .loop .inv) _
+    (sym (ap recordAnswer (c .before .why .given .1)) ∙ r .read-record .ensures)
 
 add-k : tie.Need-add-k Inv-loop μ-loop
 add-k c = search needs
@@ -75,10 +98,10 @@ loop-less : tie.Need-loop-less Inv-loop μ-loop
 loop-less c = search needs
 
 loop-again : tie.Need-loop-again Inv-loop μ-loop
-loop-again c = after c
+loop-again c = after (c .before)
 
 returns-2 : tie.Need-returns-2 Inv-loop μ-loop
-returns-2 c = finishes _ _ _ _ _ (c .loop-test .left) (c .before .loop .inv)
+returns-2 c = finishes _ _ _ _ _ _ _ (c .loop-test .left) (c .before .loop .inv)
 
 pub read-conditions-spec : {M : Type 1} → statement M
 read-conditions-spec =
@@ -86,13 +109,14 @@ read-conditions-spec =
     (tie.spec
     Inv-loop
     μ-loop
+    record-size-requires
     loop-holds
     mul-at
-    sub-read-condition
-    part-read-condition-start
-    part-read-condition-end
-    read-condition-requires
-    enum-known-digits
+    sub-read-record
+    part-read-record-start
+    part-read-record-end
+    read-record-requires
+    enum-known-condition
     add-slots
     enum-known-why
     returns

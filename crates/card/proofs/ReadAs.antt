@@ -1,0 +1,182 @@
+-- A card that was read: the card that it is, its conditions, and that record number k is read as the condition of that number.
+-- By induction on k, along the records.
+-- Assumes nothing.
+use mathlib.Core.Path.{_≡_, refl, sym, ap, ap₂, subst, _∙_}
+use mathlib.Core.List.{List, [], _∷_, _++_, map, map-append}
+use Prim.Native.Nat.{ℕ, zero, suc, _+_, _*_, _≤_, _<_}
+use native.Mathlib.Omega.{arith}
+use native.Mathlib.Nat.{zero-add}
+use lib.ListN.{length, take, drop, take-append-drop}
+use lib.Seq.{drop-drop, take-add}
+use Rattle.answer.specs.Outcome.{accepted}
+use Rattle.answer.proofs.Outcome.{answered, accepted-same}
+use Rattle.field.specs.Sum.{total}
+use Rattle.field.proofs.Sum.{total-append}
+use Rattle.digits.specs.Number.{mostDigits}
+use Rattle.circuit.specs.Bytes.{byte}
+use Rattle.circuit.specs.Every.{Every}
+use Rattle.circuit.proofs.Every.{every-map, every-drop}
+use Rattle.circuit.proofs.Records.{lentFrom, lent-all}
+use Rattle.comparison.specs.Condition.{Condition, HasSlots}
+use Rattle.query.specs.Card.{Card, mostConditions, slotsOf}
+use Rattle.query.specs.Form.{headSize, Form, recordSize}
+use Rattle.query.specs.Reading.{readCondition, readConditions, readCard}
+use Rattle.query.proofs.CardFacts.{accepted-card}
+use Rattle.query.proofs.Reading.{conditions-cons, reads}
+use Rattle.card.specs.declared.CardHead.{CardHead}
+use Rattle.card.specs.declared.Record.{Record}
+use Rattle.card.specs.Parts.{formIs, recordIs, Summary, summary, headIs}
+use Rattle.card.specs.Conditions.{ReadAs, conditionsOf, IsRecord}
+use Rattle.card.proofs.Conditions.{record-within}
+
+-- what is known of a card that was read
+pub record Known (bytes : List ℕ) (head : CardHead) : Type 0 where
+  pub card : Card
+  pub reads : readCard bytes ≡ accepted card
+  pub says : headIs head ≡ summary card
+  -- the conditions are the card's
+  pub conditions : conditionsOf bytes ≡ card .conditions
+
+conditions-are : (bytes : List ℕ) (card : Card) → readCard bytes ≡ accepted card → conditionsOf bytes ≡ card .conditions
+conditions-are bytes card e = rw e
+
+pub known-as : (bytes : List ℕ) (head : CardHead) → ReadAs bytes head → Known bytes head
+known-as bytes head e =
+    let card = answered (readCard bytes) (λ card. accepted (summary card)) (sym e) in
+    record { card = card .0; reads = card .1; says = sym (accepted-same (card .2)); conditions = conditions-are bytes (card .0) (card .1) }
+
+-- the conditions are as many as the head says, 1 to 8
+pub as-many : (bytes : List ℕ) (head : CardHead) → ReadAs bytes head
+    → (length (conditionsOf bytes) ≡ head .count) × (1 ≤ head .count) × (head .count ≤ mostConditions)
+as-many bytes head e =
+    let read = known-as bytes head e in
+    let count = accepted-card bytes (read .card) (read .reads) .count in
+    let told = ap (λ (s : Summary). s .count) (read .says) in
+    (ap length (read .conditions) ∙ sym told, omega (arith, told, count), omega (arith, told, count))
+
+-- each condition has its slots among the most that a card has
+all-slotted : (bytes : List ℕ) (head : CardHead) → ReadAs bytes head → Every (HasSlots mostDigits mostDigits) (conditionsOf bytes)
+all-slotted bytes head e =
+    let read = known-as bytes head e in
+    let kept = accepted-card bytes (read .card) (read .reads) in
+    subst (Every (HasSlots mostDigits mostDigits)) (sym (read .conditions))
+    (every-map (λ (c : Condition) h. (h .0, omega (arith, h, kept .sides), omega (arith, h, kept .sides))) (read .card .conditions) (kept .each))
+
+-- and so has the one that a record is
+pub record-slotted : (bytes : List ℕ) (head : CardHead) (k : ℕ) (r : Record) → ReadAs bytes head → IsRecord (conditionsOf bytes) k r
+    → HasSlots mostDigits mostDigits (recordIs r)
+record-slotted bytes head k r e is =
+    subst (Every (HasSlots mostDigits mostDigits)) is (every-drop (HasSlots mostDigits mostDigits) k (conditionsOf bytes) (all-slotted bytes head e)) .0
+
+-- ---- one record after the other
+
+-- the slots that are taken before the first condition, and after one more
+pub slots-none : (cs : List Condition) → 0 ≡ slotsOf (take 0 cs)
+unfolding total
+slots-none cs = refl
+
+pub slots-next : (cs : List Condition) (k slot : ℕ) (c : Condition) → slot ≡ slotsOf (take k cs) → drop k cs ≡ c ∷ drop (k + 1) cs
+    → slot + c .digits ≡ slotsOf (take (k + 1) cs)
+unfolding total
+slots-next cs k slot c so-far is =
+    let digits : Condition → ℕ = λ c. c .digits in
+    let longer = take-add k 1 cs ∙ ap (λ (l : List Condition). take k cs ++ take 1 l) is in
+    let added = map-append digits (take k cs) (c ∷ []) in
+    omega (arith, so-far, ap slotsOf longer, ap total added, total-append (map digits (take k cs)) (c .digits ∷ []))
+
+-- they are never more than a card has
+slots-few : (bytes : List ℕ) (head : CardHead) (k : ℕ) → ReadAs bytes head → slotsOf (take k (conditionsOf bytes)) ≤ mostDigits
+slots-few bytes head k e =
+    let read = known-as bytes head e in
+    let digits : Condition → ℕ = λ c. c .digits in
+    let cs = conditionsOf bytes in
+    let parts = map-append digits (take k cs) (drop k cs) in
+    omega (
+      arith,
+      ap slotsOf (take-append-drop k cs),
+      ap total parts,
+      total-append (map digits (take k cs)) (map digits (drop k cs)),
+      ap slotsOf (read .conditions),
+      accepted-card bytes (read .card) (read .reads) .slots,
+    )
+
+-- so after the condition at hand
+pub slots-after : (bytes : List ℕ) (head : CardHead) (k slot : ℕ) (r : Record) → ReadAs bytes head
+    → slot ≡ slotsOf (take k (conditionsOf bytes)) → IsRecord (conditionsOf bytes) k r
+    → (slot + r .digits ≡ slotsOf (take (k + 1) (conditionsOf bytes))) × (slot + r .digits ≤ mostDigits)
+slots-after bytes head k slot r e so-far is =
+    let next = slots-next (conditionsOf bytes) k slot (recordIs r) so-far is in (next, omega (arith, next, slots-few bytes head (k + 1) e))
+
+module _ (form : Form) (p : ℕ) where
+  condition-at : (slot count k : ℕ) (bytes : List ℕ) (cs : List Condition) → readConditions form p slot count bytes ≡ accepted cs → k < count
+      → (c : Condition)
+      × (drop k cs ≡ c ∷ drop (k + 1) cs)
+      × (readCondition form p (slot + slotsOf (take k cs)) (drop (recordSize form * k) bytes) ≡ accepted c)
+  unfolding total
+  condition-at slot zero k bytes cs e l = absurd (omega arith)
+  condition-at slot (suc count) zero bytes cs e l =
+      let s = conditions-cons form p slot count bytes cs e in
+      let first : slot + 0 ≡ slot = omega arith in
+      let none : recordSize form * 0 ≡ 0 = omega arith in
+      (s .0, subst (λ (l : List Condition). l ≡ s .0 ∷ drop 1 l) (sym (s .2)) refl, rw (first, none) (s .3))
+  condition-at slot (suc count) (suc k) bytes cs e l =
+      let s = conditions-cons form p slot count bytes cs e in
+      let r = condition-at (slot + s .0 .digits) count k (drop (recordSize form) bytes) (s .1) (s .4) (omega arith) in
+      let next : suc k + 1 ≡ suc (k + 1) = omega arith in
+      let slots : slotsOf (take (suc k) cs) ≡ s .0 .digits + slotsOf (take k (s .1)) = ap (λ (l : List Condition). slotsOf (take (suc k) l)) (s .2) in
+      let place : recordSize form * suc k ≡ recordSize form + recordSize form * k = omega arith in (
+        r .0,
+        rw next (subst (λ (l : List Condition). drop (suc k) l ≡ r .0 ∷ drop (suc (k + 1)) l) (sym (s .2)) (r .1)),
+        ap₂ (readCondition form p) (omega (arith, slots)) (ap (λ (n : ℕ). drop n bytes) place ∙ sym (drop-drop (recordSize form * k) (recordSize form) bytes)) ∙ r .2,
+      )
+
+-- ---- record number k
+
+-- a record at this place, of a form and a prime, is the condition of number k
+abbrev ReadAt : List ℕ → ℕ → ℕ → Summary → List Condition → Type 0
+ReadAt bytes k size said cs =
+    (c : Condition)
+    × (drop k cs ≡ c ∷ drop (k + 1) cs)
+    × (readCondition (said .form) (said .prime) (slotsOf (take k cs)) (lentFrom bytes (headSize + size * k)) ≡ accepted c)
+
+-- in the bytes of a card, with the size of its form
+module _ (bytes : List ℕ) (card : Card) (k size : ℕ) (e : readCard bytes ≡ accepted card) (l : k < length (card .conditions))
+    (is : size ≡ recordSize (card .form)) where
+  in-card : headSize + size * k + size ≤ length bytes
+  in-card =
+      let r = reads bytes card e in
+      let count = length (card .conditions) in
+      omega (
+        arith,
+        record-within size count k l,
+        ap (λ (n : ℕ). n * count) is,
+        r .size,
+        ap (λ (n : ℕ). recordSize (card .form) * n) (r .count),
+      )
+
+  of-card : ReadAt bytes k size (summary card) (card .conditions)
+  of-card =
+      let r = reads bytes card e in
+      let found = condition-at (card .form) (card .prime) 0 (byte bytes 4) k (drop headSize bytes) (card .conditions) (r .conditions) (omega (arith, l, r .count)) in
+      let place = lent-all bytes (headSize + size * k) ∙ sym (drop-drop (size * k) headSize bytes) ∙ ap (λ (n : ℕ). drop (n * k) (drop headSize bytes)) is in
+      (found .0, found .1, ap₂ (readCondition (card .form) (card .prime)) (sym (zero-add _)) place ∙ found .2)
+
+-- the same as the code holds it
+module _ (bytes : List ℕ) (head : CardHead) (k size : ℕ) (e : ReadAs bytes head) (l : k < head .count)
+    (is : size ≡ recordSize (formIs (head .form))) where
+  abbrev read : Known bytes head
+  read = known-as bytes head e
+
+  few : k < length (read .card .conditions)
+  few = omega (arith, l, ap (λ (s : Summary). s .count) (read .says))
+
+  sized : size ≡ recordSize (read .card .form)
+  sized = is ∙ ap (λ (s : Summary). recordSize (s .form)) (read .says)
+
+  pub record-long : headSize + size * k + size ≤ length bytes
+  record-long = in-card bytes (read .card) k size (read .reads) few sized
+
+  pub record-read : ReadAt bytes k size (headIs head) (conditionsOf bytes)
+  record-read =
+      subst (λ (s : Summary). ReadAt bytes k size s (conditionsOf bytes)) (sym (read .says))
+      (subst (ReadAt bytes k size (summary (read .card))) (sym (read .conditions)) (of-card bytes (read .card) k size (read .reads) few sized))

@@ -1,0 +1,35 @@
+-- `card::read_counted` meets its contract: the test says whether the digit count is wrong; there is one form, so it is known.
+-- Assumes nothing.
+use mathlib.Core.Path.{_≡_, sym, ap, _∙_}
+use native.Mathlib.Omega.{arith}
+use borrow.Author.Needs.{needs}
+use Rattle.digits.specs.Number.{wrongCount}
+use Rattle.circuit.specs.Bytes.{byte}
+use Rattle.query.proofs.Form.{record-least}
+use Rattle.card.specs.Parts.{formIs}
+use Rattle.card.proofs.Forms.{is-plain}
+use Rattle.card.proofs.read_counted.Statement.{statement}
+use Rattle.card.proofs.read_counted.Tie as tie
+
+shared-slice-read-digits : tie.Need-shared-slice-read-digits
+shared-slice-read-digits c = let s = c .before .before in omega (arith, s .pre, record-least (formIs (s .args .form)))
+
+wide-requires : tie.Need-wide-requires
+wide-requires c κs = search needs
+
+outside-requires : tie.Need-outside-requires
+outside-requires c κs = search needs
+
+-- what the test says of the digit count
+wrong : (c : tie.After-outside) → wrongCount (byte (c .before .before .before .before .args .bytes .now) 3) ≡ c .outside .result
+wrong c = ap wrongCount (sym (c .before .wide .ensures .0)) ∙ sym (c .outside .ensures)
+
+returns : tie.Need-returns
+returns c = rw (wrong (c .before) ∙ c .if1 .taken)
+
+returns-2 : tie.Need-returns-2
+returns-2 c = rw (wrong (c .before) ∙ c .if1 .left, is-plain (c .before .before .before .before .before .args .form))
+
+pub read-counted-spec : {M : Type 1} → statement M
+read-counted-spec =
+    tie.close (tie.spec shared-slice-read-digits wide-requires outside-requires returns returns-2)

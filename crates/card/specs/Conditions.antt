@@ -1,0 +1,24 @@
+-- The conditions of a card that was read, one by one, as whoever counts or writes them meets them.
+use mathlib.Core.Path.{_≡_}
+use mathlib.Core.List.{List, [], _∷_}
+use Prim.Native.Nat.{ℕ, _+_}
+use lib.ListN.{drop}
+use Rattle.answer.specs.Outcome.{accepted, onAnswer}
+use Rattle.comparison.specs.Condition.{Condition}
+use Rattle.query.specs.Card.{Card}
+use Rattle.query.specs.Reading.{readCard}
+use Rattle.card.specs.declared.Record.{Record}
+use Rattle.card.specs.declared.CardHead.{CardHead}
+use Rattle.card.specs.Parts.{recordIs, headIs, readSummary}
+
+-- the bytes are a card that is accepted, and this is what it says
+abbrev pub ReadAs : List ℕ → CardHead → Type 0
+ReadAs bytes head = accepted (headIs head) ≡ readSummary bytes
+
+-- the conditions of a card that is accepted; of other bytes none
+abbrev pub conditionsOf : List ℕ → List Condition
+conditionsOf bytes = onAnswer (readCard bytes) (λ number. []) (λ (card : Card). card .conditions)
+
+-- a record is the condition of number k
+abbrev pub IsRecord : List Condition → ℕ → Record → Type 0
+IsRecord cs k r = drop k cs ≡ recordIs r ∷ drop (k + 1) cs
