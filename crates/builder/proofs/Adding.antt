@@ -11,12 +11,11 @@ use Rattle.circuit.specs.Segment as segment
 use Rattle.comparison.specs.Condition.{Condition}
 use Rattle.comparison.specs.Tests.{baseTests}
 use Rattle.comparison.specs.Writing.{conditionSegment}
-use Rattle.query.specs.Card.{slotsOf}
 use Rattle.query.specs.Whole.{Draft, begin, add, addAll}
 use Rattle.query.proofs.Whole.{all-more}
 use Rattle.card.specs.declared.Record.{Record}
 use Rattle.card.specs.Parts.{recordIs}
-use Rattle.card.specs.Conditions.{IsRecord}
+use Rattle.card.specs.Conditions.{Taken, IsRecord}
 use Rattle.card.proofs.ReadAs.{slots-none, slots-next}
 use Rattle.writer.specs.declared.Pen.{Pen}
 use Rattle.tree.specs.Factors.{nodes}
@@ -33,7 +32,7 @@ pub record Adds (p : ℕ) (cs : List Condition) (table₀ table : List ℕ) (pen
   pub counts : (pen .products ≤ pen .next) × (pen .squares ≤ pen .next)
   pub outputs : nodes (take k gates) (take k depths) ≡ draft .outputs
   -- the slots that are taken
-  pub slots : slot ≡ slotsOf (take k cs)
+  pub slots : Taken cs k slot
   -- the conditions that are left make it the draft of all
   pub all : addAll (baseTests p) p draft (drop k cs) ≡ drafted p cs
 

@@ -1,9 +1,9 @@
--- A card that was read: the card that it is, its conditions, and that record number k is read as the condition of that number.
--- By induction on k, along the records.
+-- A card that was read: the card that it is, its conditions and their slots, and that record number k is read as the condition of
+-- that number.
 -- Assumes nothing.
 use mathlib.Core.Path.{_≡_, refl, sym, ap, ap₂, subst, _∙_}
 use mathlib.Core.List.{List, [], _∷_, _++_, map, map-append}
-use Prim.Native.Nat.{ℕ, zero, suc, _+_, _*_, _≤_, _<_}
+use Prim.Native.Nat.{ℕ, _+_, _*_, _≤_, _<_}
 use native.Mathlib.Omega.{arith}
 use native.Mathlib.Nat.{zero-add}
 use lib.ListN.{length, take, drop, take-append-drop}
@@ -19,14 +19,14 @@ use Rattle.circuit.proofs.Every.{every-map, every-drop}
 use Rattle.circuit.proofs.Records.{lentFrom, lent-all}
 use Rattle.comparison.specs.Condition.{Condition, HasSlots}
 use Rattle.query.specs.Card.{Card, mostConditions, slotsOf}
-use Rattle.query.specs.Form.{headSize, Form, recordSize}
-use Rattle.query.specs.Reading.{readCondition, readConditions, readCard}
+use Rattle.query.specs.Form.{headSize, recordSize}
+use Rattle.query.specs.Reading.{readCondition, readCard}
 use Rattle.query.proofs.CardFacts.{accepted-card}
-use Rattle.query.proofs.Reading.{conditions-cons, reads}
+use Rattle.query.proofs.Reading.{condition-at, reads}
 use Rattle.card.specs.declared.CardHead.{CardHead}
 use Rattle.card.specs.declared.Record.{Record}
 use Rattle.card.specs.Parts.{formIs, recordIs, Summary, summary, headIs}
-use Rattle.card.specs.Conditions.{ReadAs, conditionsOf, IsRecord}
+use Rattle.card.specs.Conditions.{ReadAs, conditionsOf, Taken, IsRecord}
 use Rattle.card.proofs.Conditions.{record-within}
 
 -- what is known of a card that was read
@@ -68,15 +68,15 @@ pub record-slotted : (bytes : List ℕ) (head : CardHead) (k : ℕ) (r : Record)
 record-slotted bytes head k r e is =
     subst (Every (HasSlots mostDigits mostDigits)) is (every-drop (HasSlots mostDigits mostDigits) k (conditionsOf bytes) (all-slotted bytes head e)) .0
 
--- ---- one record after the other
+-- ---- the slots, one condition after the other
 
 -- the slots that are taken before the first condition, and after one more
-pub slots-none : (cs : List Condition) → 0 ≡ slotsOf (take 0 cs)
+pub slots-none : (cs : List Condition) → Taken cs 0 0
 unfolding total
 slots-none cs = refl
 
-pub slots-next : (cs : List Condition) (k slot : ℕ) (c : Condition) → slot ≡ slotsOf (take k cs) → drop k cs ≡ c ∷ drop (k + 1) cs
-    → slot + c .digits ≡ slotsOf (take (k + 1) cs)
+pub slots-next : (cs : List Condition) (k slot : ℕ) (c : Condition) → Taken cs k slot → drop k cs ≡ c ∷ drop (k + 1) cs
+    → Taken cs (k + 1) (slot + c .digits)
 unfolding total
 slots-next cs k slot c so-far is =
     let digits : Condition → ℕ = λ c. c .digits in
@@ -102,33 +102,10 @@ slots-few bytes head k e =
 
 -- so after the condition at hand
 pub slots-after : (bytes : List ℕ) (head : CardHead) (k slot : ℕ) (r : Record) → ReadAs bytes head
-    → slot ≡ slotsOf (take k (conditionsOf bytes)) → IsRecord (conditionsOf bytes) k r
-    → (slot + r .digits ≡ slotsOf (take (k + 1) (conditionsOf bytes))) × (slot + r .digits ≤ mostDigits)
+    → Taken (conditionsOf bytes) k slot → IsRecord (conditionsOf bytes) k r
+    → Taken (conditionsOf bytes) (k + 1) (slot + r .digits) × (slot + r .digits ≤ mostDigits)
 slots-after bytes head k slot r e so-far is =
     let next = slots-next (conditionsOf bytes) k slot (recordIs r) so-far is in (next, omega (arith, next, slots-few bytes head (k + 1) e))
-
-module _ (form : Form) (p : ℕ) where
-  condition-at : (slot count k : ℕ) (bytes : List ℕ) (cs : List Condition) → readConditions form p slot count bytes ≡ accepted cs → k < count
-      → (c : Condition)
-      × (drop k cs ≡ c ∷ drop (k + 1) cs)
-      × (readCondition form p (slot + slotsOf (take k cs)) (drop (recordSize form * k) bytes) ≡ accepted c)
-  unfolding total
-  condition-at slot zero k bytes cs e l = absurd (omega arith)
-  condition-at slot (suc count) zero bytes cs e l =
-      let s = conditions-cons form p slot count bytes cs e in
-      let first : slot + 0 ≡ slot = omega arith in
-      let none : recordSize form * 0 ≡ 0 = omega arith in
-      (s .0, subst (λ (l : List Condition). l ≡ s .0 ∷ drop 1 l) (sym (s .2)) refl, rw (first, none) (s .3))
-  condition-at slot (suc count) (suc k) bytes cs e l =
-      let s = conditions-cons form p slot count bytes cs e in
-      let r = condition-at (slot + s .0 .digits) count k (drop (recordSize form) bytes) (s .1) (s .4) (omega arith) in
-      let next : suc k + 1 ≡ suc (k + 1) = omega arith in
-      let slots : slotsOf (take (suc k) cs) ≡ s .0 .digits + slotsOf (take k (s .1)) = ap (λ (l : List Condition). slotsOf (take (suc k) l)) (s .2) in
-      let place : recordSize form * suc k ≡ recordSize form + recordSize form * k = omega arith in (
-        r .0,
-        rw next (subst (λ (l : List Condition). drop (suc k) l ≡ r .0 ∷ drop (suc (k + 1)) l) (sym (s .2)) (r .1)),
-        ap₂ (readCondition form p) (omega (arith, slots)) (ap (λ (n : ℕ). drop n bytes) place ∙ sym (drop-drop (recordSize form * k) (recordSize form) bytes)) ∙ r .2,
-      )
 
 -- ---- record number k
 

@@ -2,10 +2,10 @@
 use mathlib.Core.Path.{_≡_}
 use mathlib.Core.List.{List, [], _∷_}
 use Prim.Native.Nat.{ℕ, _+_}
-use lib.ListN.{drop}
+use lib.ListN.{take, drop}
 use Rattle.answer.specs.Outcome.{accepted, onAnswer}
 use Rattle.comparison.specs.Condition.{Condition}
-use Rattle.query.specs.Card.{Card}
+use Rattle.query.specs.Card.{Card, slotsOf}
 use Rattle.query.specs.Reading.{readCard}
 use Rattle.card.specs.declared.Record.{Record}
 use Rattle.card.specs.declared.CardHead.{CardHead}
@@ -18,6 +18,10 @@ ReadAs bytes head = accepted (headIs head) ≡ readSummary bytes
 -- the conditions of a card that is accepted; of other bytes none
 abbrev pub conditionsOf : List ℕ → List Condition
 conditionsOf bytes = onAnswer (readCard bytes) (λ number. []) (λ (card : Card). card .conditions)
+
+-- the first k conditions take the slots before this one
+abbrev pub Taken : List Condition → ℕ → ℕ → Type 0
+Taken cs k slot = slot ≡ slotsOf (take k cs)
 
 -- a record is the condition of number k
 abbrev pub IsRecord : List Condition → ℕ → Record → Type 0

@@ -5,14 +5,14 @@ use records::MOST_WEIGHT;
 use relations::Relation;
 ghost use mathlib.Core.Path.{_≡_};
 ghost use Prim.Native.Nat.{_*_, _≤_, _<_};
-ghost use lib.ListN.{length, take};
+ghost use lib.ListN.{length};
 ghost use Rattle.circuit.specs.Bytes.{wrongMark};
-ghost use Rattle.query.specs.Card.{mostConditions, slotsOf};
+ghost use Rattle.query.specs.Card.{mostConditions};
 ghost use Rattle.query.specs.Form.{headSize, recordMarkOf, recordSize, formOf};
 ghost use Rattle.query.specs.Reading.{readCounted, readCondition, withinSlots};
 ghost use Rattle.relations.specs.Relations.{relationIs};
 ghost use Rattle.card.specs.Parts.{formIs, formAnswer, recordAnswer, slotsAnswer, readSlotCount, headIs, cardAnswer, readSummary, readFormedSummary};
-ghost use Rattle.card.specs.Conditions.{ReadAs, conditionsOf, IsRecord};
+ghost use Rattle.card.specs.Conditions.{ReadAs, conditionsOf, Taken, IsRecord};
 
 // For each form the marks of a head and of a record, and the bytes of a record.
 const PLAIN_HEAD: [u8; 2] = [0xC5, 0x48];
@@ -224,7 +224,7 @@ pub fn read_card(card: &[u8]) -> CardRead
 
 // Condition number k of a card that was read, where slot is the next that is free.
 pub fn record_at(card: &[u8], head: CardHead, k: usize, slot: u8) -> Record
-    requires { ⌜ ReadAs (now card) head × (k < head .count) × (slot ≡ slotsOf (take k (conditionsOf (now card)))) ⌝ }
+    requires { ⌜ ReadAs (now card) head × (k < head .count) × Taken (conditionsOf (now card)) k slot ⌝ }
     ensures { λ r. ⌜ IsRecord (conditionsOf (now (card .entry))) k r ⌝ }
 {
     let form = head.form;

@@ -2,19 +2,20 @@
 -- A record's bytes and its condition determine each other, by the laws of its form;
 -- the conditions follow by induction on the records, the head by its rules one at a time.
 -- Assumes nothing.
-use mathlib.Core.Path.{_≡_, refl, sym, ap, subst, _∙_}
+use mathlib.Core.Path.{_≡_, refl, sym, ap, ap₂, subst, _∙_}
 use mathlib.Core.Bool.{true, false, not}
 use mathlib.Core.List.{List, [], _∷_, _++_}
-use Prim.Native.Nat.{ℕ, zero, suc, _+_, _*_, _≤_}
+use Prim.Native.Nat.{ℕ, zero, suc, _+_, _*_, _≤_, _<_}
 use native.Mathlib.Omega.{arith}
 use native.Mathlib.Nat.{zero-add}
 use borrow.Author.Tests.{eq-eqb, le-ltb, eqb-true, not-true, not-false}
 use lib.Dec.{ltb, eqb}
-use lib.ListN.{length, drop, length-append, length-drop}
-use lib.Seq.{drop-at, drop-cons}
+use lib.ListN.{length, take, drop, length-append, length-drop}
+use lib.Seq.{drop-at, drop-cons, drop-drop}
 use Rattle.answer.specs.Outcome.{Answer, refused, accepted, numbered}
 use Rattle.answer.proofs.Outcome.{passed, answered, accepted-same, numbered-is}
 use Rattle.field.specs.Primes.{listed}
+use Rattle.field.specs.Sum.{total}
 use Rattle.field.proofs.Tests.{both}
 use Rattle.digits.specs.Number.{mostDigits, wrongCount}
 use Rattle.circuit.specs.Bytes.{byte, wrongMark}
@@ -169,7 +170,7 @@ module _ (form : Form) (p : ℕ) where
       four bytes (omega (arith, l, record-length form c)) ∙ rw (s .mark .0, s .mark .1, ← s .relation, ← s .tail .digits, s .tail .after l)
 
   -- the first condition, and the others
-  pub conditions-cons : (slot count : ℕ) (bytes : List ℕ) (cs : List Condition) → readConditions form p slot (suc count) bytes ≡ accepted cs
+  conditions-cons : (slot count : ℕ) (bytes : List ℕ) (cs : List Condition) → readConditions form p slot (suc count) bytes ≡ accepted cs
       → (c : Condition) × (later : List Condition) × (cs ≡ c ∷ later) × (readCondition form p slot bytes ≡ accepted c)
       × (readConditions form p (slot + c .digits) count (drop (recordSize form) bytes) ≡ accepted later)
   unfolding readConditions
@@ -202,6 +203,29 @@ module _ (form : Form) (p : ℕ) where
       condition-bytes slot bytes (s .0) (omega arith) (says form p slot bytes (s .0) (s .3))
       ∙ ap (λ (l : List ℕ). conditionBytes form (s .0) ++ l) later
       ∙ ap (conditionsBytes form) (sym (s .2))
+
+  -- and record number k is read as the condition of that number
+  pub condition-at : (slot count k : ℕ) (bytes : List ℕ) (cs : List Condition) → readConditions form p slot count bytes ≡ accepted cs → k < count
+      → (c : Condition)
+      × (drop k cs ≡ c ∷ drop (k + 1) cs)
+      × (readCondition form p (slot + slotsOf (take k cs)) (drop (recordSize form * k) bytes) ≡ accepted c)
+  unfolding total
+  condition-at slot zero k bytes cs e l = absurd (omega arith)
+  condition-at slot (suc count) zero bytes cs e l =
+      let s = conditions-cons slot count bytes cs e in
+      let first : slot + 0 ≡ slot = omega arith in
+      let none : recordSize form * 0 ≡ 0 = omega arith in
+      (s .0, subst (λ (l : List Condition). l ≡ s .0 ∷ drop 1 l) (sym (s .2)) refl, rw (first, none) (s .3))
+  condition-at slot (suc count) (suc k) bytes cs e l =
+      let s = conditions-cons slot count bytes cs e in
+      let r = condition-at (slot + s .0 .digits) count k (drop (recordSize form) bytes) (s .1) (s .4) (omega arith) in
+      let next : suc k + 1 ≡ suc (k + 1) = omega arith in
+      let slots : slotsOf (take (suc k) cs) ≡ s .0 .digits + slotsOf (take k (s .1)) = ap (λ (l : List Condition). slotsOf (take (suc k) l)) (s .2) in
+      let place : recordSize form * suc k ≡ recordSize form + recordSize form * k = omega arith in (
+        r .0,
+        rw next (subst (λ (l : List Condition). drop (suc k) l ≡ r .0 ∷ drop (suc (k + 1)) l) (sym (s .2)) (r .1)),
+        ap₂ (readCondition form p) (omega (arith, slots)) (ap (λ (n : ℕ). drop n bytes) place ∙ sym (drop-drop (recordSize form * k) (recordSize form) bytes)) ∙ r .2,
+      )
 
 -- every rule that accepted bytes have passed, and what was read
 pub record Reads (bytes : List ℕ) (card : Card) : Type 0 where

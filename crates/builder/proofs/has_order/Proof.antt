@@ -1,21 +1,19 @@
 -- `builder::has_order` meets its contract. The invariant is `Seeks`: one of the conditions compares by order exactly where one of those
 -- that are left does. The measure is how many are left.
 -- Assumes nothing.
-use mathlib.Core.Path.{_≡_, refl, sym, _∙_}
+use mathlib.Core.Path.{refl, sym, _∙_}
 use Prim.Native.Nat.{_+_, _-_, _≤_}
 use native.Mathlib.Omega.{arith}
 use borrow.Author.Needs.{needs}
-use lib.ListN.{take}
 use Rattle.digits.specs.Number.{mostDigits}
-use Rattle.query.specs.Card.{slotsOf}
-use Rattle.card.specs.Conditions.{conditionsOf}
+use Rattle.card.specs.Conditions.{conditionsOf, Taken}
 use Rattle.card.proofs.ReadAs.{as-many, slots-none, slots-after}
 use Rattle.builder.proofs.Orders.{Seeks, finishes, own-order, passed}
 use Rattle.builder.proofs.has_order.Statement.{statement}
 use Rattle.builder.proofs.has_order.Tie as tie
 
 abbrev Inv-loop : tie.InvT-loop
-Inv-loop card head count slot₀ k₀ slot k = Seeks (conditionsOf card) k × (slot ≡ slotsOf (take k (conditionsOf card)))
+Inv-loop card head count slot₀ k₀ slot k = Seeks (conditionsOf card) k × Taken (conditionsOf card) k slot
 
 abbrev μ-loop : tie.MeasureT-loop
 μ-loop card head count slot₀ k₀ slot k = count - k
@@ -47,7 +45,7 @@ returns c =
 taken : (r : tie.After-record-at Inv-loop μ-loop) → (
     let l = r .before .before in
     let next = l .loop .slot + r .record-at .result .digits in
-    (next ≡ slotsOf (take (l .loop .k + 1) (conditionsOf (start l .args .card .now)))) × (next ≤ mostDigits)
+    Taken (conditionsOf (start l .args .card .now)) (l .loop .k + 1) next × (next ≤ mostDigits)
     )
 taken r =
     let l = r .before .before in

@@ -6,11 +6,10 @@ use mathlib.Core.Bool.{true, false}
 use Prim.Native.Nat.{_+_, _-_, _<_, _≤_, zero-le}
 use native.Mathlib.Omega.{arith}
 use borrow.Author.Needs.{needs}
-use lib.ListN.{take}
 use Rattle.digits.specs.Number.{mostDigits}
 use Rattle.comparison.specs.Condition.{Condition, HasSlots}
-use Rattle.query.specs.Card.{mostConditions, slotsOf}
-use Rattle.card.specs.Conditions.{conditionsOf}
+use Rattle.query.specs.Card.{mostConditions}
+use Rattle.card.specs.Conditions.{conditionsOf, Taken}
 use Rattle.card.specs.Parts.{recordIs, headIs}
 use Rattle.card.proofs.ReadAs.{as-many, record-slotted, slots-none, slots-after}
 use Rattle.forecast.specs.declared.Totals.{Totals}
@@ -24,7 +23,7 @@ abbrev Inv-loop : tie.InvT-loop
 Inv-loop card head order equality count gates₀ products₀ squares₀ breadth₀ slot₀ k₀ gates products squares breadth slot k =
     Adds (head .prime) (conditionsOf card) k (record { gates = gates; products = products; squares = squares; breadth = breadth })
     × (k ≤ count)
-    × (slot ≡ slotsOf (take k (conditionsOf card)))
+    × Taken (conditionsOf card) k slot
 
 abbrev μ-loop : tie.MeasureT-loop
 μ-loop card head order equality count gates₀ products₀ squares₀ breadth₀ slot₀ k₀ gates products squares breadth slot k = count - k
@@ -143,7 +142,7 @@ add-breadth c = omega (arith, after c .few .3, room (c .before .before .before .
 taken : (r : tie.After-record-at Inv-loop μ-loop) → (
     let l = turn r in
     let next = l .loop .slot + r .record-at .result .digits in
-    (next ≡ slotsOf (take (l .loop .k + 1) (conditionsOf (start l .args .card .now)))) × (next ≤ mostDigits)
+    Taken (conditionsOf (start l .args .card .now)) (l .loop .k + 1) next × (next ≤ mostDigits)
     )
 taken r =
     let l = turn r in
