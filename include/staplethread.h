@@ -1,6 +1,7 @@
 /* Staplethread for C and C++: query cards, gate tables and digits.
  *
- * The rules are those of document 01, "The query builder and its exact rules".
+ * The rules are those of document 01, "The query builder and its exact rules", and of scored queries
+ * those of document 02.
  *
  * A list of bytes is a pointer, then its length in bytes. Pointers are not null, not even those of
  * empty lists. What a call writes overlaps nothing else that is lent to it. Nothing is kept after a
@@ -59,10 +60,15 @@ uint8_t staplethread_decode(uint8_t p, const uint8_t *digits, size_t digits_leng
 
 /* ---- Cards
  *
- * Head, 6 bytes: mark 0xC5 0x48, p, weight s (hundredths, 50 to 100), condition count c (1 to 8),
- * spare 0. Then c condition records of 4 bytes: mark 0xC5 0x51, relation, n (1 to 16). The digits of
- * all conditions together, N, are at most 16. Relations between left (record) and right (query):
- * 1 <, 2 <=, 3 >, 4 >=, 5 =, 6 not equal. Each condition takes the next n slots on both sides.
+ * A plain card asks whether all conditions hold. Head, 6 bytes: mark 0xC5 0x48, p, weight s
+ * (hundredths, 50 to 100), condition count c (1 to 8), spare 0. Then c condition records of 4 bytes:
+ * mark 0xC5 0x51, relation, n (1 to 16). The digits of all conditions together, N, are at most 16.
+ * Relations between left (record) and right (query): 1 <, 2 <=, 3 >, 4 >=, 5 =, 6 not equal. Each
+ * condition takes the next n slots on both sides.
+ *
+ * A score card asks for the sum of the weights of the conditions that hold. Its head has the mark
+ * 0xC5 0x53, its condition records have 6 bytes: mark 0xC5 0x57, relation, n, weight (1 to p-1),
+ * spare 0. The weights of all conditions together are below p.
  */
 
 /* Forecast: the report on the card's table, from the card only.
@@ -72,13 +78,16 @@ uint8_t staplethread_decode(uint8_t p, const uint8_t *digits, size_t digits_leng
  *  4  s not 50 to 100
  *  5  spare not 0
  *  6  c not 1 to 8
- *  7  length not 6+4c
+ *  7  length not 6+4c, or 6+6c of a score card
  *     then by condition
  *  2  mark
  *  8  relation not 1 to 6
  *  9  n not 1 to 16
+ * 25  of a score card: weight 0, or p and more
+ *  5  of a score card: spare not 0
  *     then
- * 10  N over 16 */
+ * 10  N over 16
+ * 26  of a score card: total weight p or more */
 uint8_t staplethread_forecast(const uint8_t *card, size_t card_length,
                               uint16_t *gates, uint16_t *products, uint16_t *squares,
                               uint32_t *cost, uint16_t *depth);
@@ -119,7 +128,9 @@ uint8_t staplethread_check(const uint8_t *table, size_t table_length,
 size_t staplethread_trim(const uint8_t *table, size_t table_length);
 
 /* Run: the table on a record (left) and a query (right), in the clear. The first G bytes of work then
- * hold the gate values, later ones are kept; output is the last gate's.
+ * hold the gate values, later ones are kept; output is the last gate's. For a table that Build wrote
+ * and digits below B it is, of a plain card, 1 where all conditions hold and 0 otherwise; of a score
+ * card, the sum of the weights of those that hold.
  * Refuses as Check does, then
  * 18  left or right list not N long
  * 19  a value of p or more

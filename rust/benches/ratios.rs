@@ -1,7 +1,7 @@
 //! Times the proved library against the second program, both built for release, on the same
 //! inputs in one run, and prints a table of ratios. No buffer is cleared between calls.
 
-use second::card::card_bytes;
+use second::card::{card_bytes, score_card_bytes};
 use std::hint::black_box;
 use std::time::Instant;
 
@@ -127,6 +127,10 @@ fn main() {
         (
             "p=31, >= of 3, > of 1, = of 2",
             card_bytes(31, 80, &[(4, 3), (3, 1), (5, 2)]),
+        ),
+        (
+            "the same with weights 5, 3, 2",
+            score_card_bytes(31, 80, &[(4, 3, 5), (3, 1, 3), (5, 2, 2)]),
         ),
         ("p=251, < of 16", card_bytes(251, 100, &[(1, 16)])),
     ];

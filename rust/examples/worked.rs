@@ -1,5 +1,6 @@
 //! "Distance at least 20 m, grade worse than 3": a question, its table, and the answer for two
-//! records. Plain digits stand where the runner has ciphertexts.
+//! records; then "how bad is this stretch?", a score over the same two conditions. Plain digits
+//! stand where the runner has ciphertexts.
 
 use staplethread::{build, encode, forecast, run, Refusal};
 
@@ -11,6 +12,11 @@ const GRADE_DIGITS: usize = 1;
 /// Left at least right for the distance (relation 4), left above right for the grade (3).
 const CARD: [u8; 14] = [0xC5, 0x48, P, 75, 2, 0, 0xC5, 0x51, 4, 3, 0xC5, 0x51, 3, 1];
 
+/// The same as a score: 5 for the distance, 3 for the grade.
+const SCORE_CARD: [u8; 18] = [
+    0xC5, 0x53, P, 75, 2, 0, 0xC5, 0x57, 4, 3, 5, 0, 0xC5, 0x57, 3, 1, 3, 0,
+];
+
 /// The slots of one side: the distance's digits, then the grade's.
 fn slots(distance: u64, grade: u64) -> Result<[u8; 4], Refusal> {
     let mut digits = [0; DISTANCE_DIGITS + GRADE_DIGITS];
@@ -19,19 +25,25 @@ fn slots(distance: u64, grade: u64) -> Result<[u8; 4], Refusal> {
     Ok(digits)
 }
 
-fn main() -> Result<(), Refusal> {
-    let report = forecast(&CARD)?;
+/// Builds the card's table and runs it on each record, a distance and a grade.
+fn ask(card: &[u8], records: &[(u64, u64)]) -> Result<(), Refusal> {
+    let report = forecast(card)?;
     println!(
         "depth {} levels, cost {} hundredths",
         report.depth.0, report.cost.0
     );
     let mut table = vec![0; report.table_bytes()];
-    build(&CARD, &mut table)?;
+    build(card, &mut table)?;
     let mut work = vec![0; usize::from(report.gates)];
     let query = slots(20, 3)?;
-    for (distance, grade) in [(34, 4), (12, 5)] {
-        let bit = run(&table, &slots(distance, grade)?, &query, &mut work)?;
-        println!("distance {distance} m, grade {grade}: {bit}");
+    for &(distance, grade) in records {
+        let output = run(&table, &slots(distance, grade)?, &query, &mut work)?;
+        println!("distance {distance} m, grade {grade}: {output}");
     }
     Ok(())
+}
+
+fn main() -> Result<(), Refusal> {
+    ask(&CARD, &[(34, 4), (12, 5)])?;
+    ask(&SCORE_CARD, &[(34, 4), (12, 5), (34, 2), (12, 1)])
 }

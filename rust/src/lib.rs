@@ -1,7 +1,9 @@
 //! The query builder for encrypted records: seven operations of a proved library, called safely.
 //!
 //! Every function answers for all inputs. A refusal is the rules' number and nothing else, and
-//! leaves every lent byte as it was.
+//! leaves every lent byte as it was. A card is a plain one, which asks for a yes or no, or a score
+//! card, which asks for the sum of the weights of the conditions that hold; `build` and `forecast`
+//! take both.
 //!
 //! Each `unsafe` call is sound: a slice is passed as its pointer and its length, no reference is
 //! null, and Rust keeps what is lent for writing apart from everything else.

@@ -3,6 +3,7 @@
 //!
 //! STAPLETHREAD_ROUNDS sets how many rounds each test takes.
 
+use second::card::{card_bytes, score_card_bytes, Card, Form, SCORE_HEAD_MARK};
 use second::Random;
 use std::collections::BTreeMap;
 use std::fmt::Debug;
@@ -102,24 +103,75 @@ fn prime(random: &mut Random) -> u8 {
     }
 }
 
-/// A card that is accepted but for a digit count of more than 16 in all.
+/// A card of either form.
 fn card(random: &mut Random) -> Vec<u8> {
-    let count = 1 + random.byte_below(8);
-    let weight = 50 + random.byte_below(51);
-    let mut bytes = vec![0xC5, 0x48, prime(random), weight, count, 0];
-    for _ in 0..count {
-        let most = if rarely(random, 8) { 16 } else { 16 / count };
-        let digits = 1 + random.byte_below(most);
-        bytes.extend_from_slice(&[0xC5, 0x51, 1 + random.byte_below(6), digits]);
+    if rarely(random, 2) {
+        score_card(random)
+    } else {
+        plain_card(random)
     }
-    bytes
+}
+
+/// The weight s of a square.
+fn square_weight(random: &mut Random) -> u8 {
+    50 + random.byte_below(51)
+}
+
+/// A relation and an n, for one of so many conditions; now and then n makes more than 16 in all.
+fn condition(random: &mut Random, count: u8) -> (u8, u8) {
+    let most = if rarely(random, 8) { 16 } else { 16 / count };
+    let digits = 1 + random.byte_below(most);
+    (1 + random.byte_below(6), digits)
+}
+
+/// A plain card that is accepted but for a digit count of more than 16 in all.
+fn plain_card(random: &mut Random) -> Vec<u8> {
+    let count = 1 + random.byte_below(8);
+    let conditions: Vec<_> = (0..count).map(|_| condition(random, count)).collect();
+    card_bytes(prime(random), square_weight(random), &conditions)
+}
+
+/// A score card that is accepted but for a digit count of more than 16 in all, or a total weight
+/// of p or more.
+fn score_card(random: &mut Random) -> Vec<u8> {
+    let p = prime(random);
+    // More than p-1 conditions have no weights that are accepted.
+    let most = if rarely(random, 16) { 8 } else { 8.min(p - 1) };
+    let count = 1 + random.byte_below(most);
+    let conditions: Vec<_> = condition_weights(random, p, count)
+        .into_iter()
+        .map(|weight| {
+            let (relation, digits) = condition(random, count);
+            (relation, digits, weight)
+        })
+        .collect();
+    score_card_bytes(p, square_weight(random), &conditions)
+}
+
+/// Weights of 1 and more. Where p has room for so many, their total is below p; sometimes it is
+/// just p-1, and now and then p.
+fn condition_weights(random: &mut Random, p: u8, count: u8) -> Vec<u8> {
+    let mut weights = vec![1; usize::from(count)];
+    let mut rest = (p - 1).saturating_sub(count);
+    for weight in &mut weights {
+        let more = random.byte_below(rest / 2 + 1);
+        *weight += more;
+        rest -= more;
+    }
+    let place = random.below(u64::from(count)) as usize;
+    match random.below(16) {
+        0..=3 => weights[place] += rest,
+        4 => weights[place] += rest + 1,
+        _ => {}
+    }
+    weights
 }
 
 /// A byte near the borders of the rules, or any.
 fn odd_byte(random: &mut Random) -> u8 {
     match random.below(3) {
         0 => random.pick(&[0, 1, 2, 6, 7, 8, 9, 16, 17, 49, 50, 100, 101, 249, 251, 255]),
-        1 => random.pick(&[0x47, 0x48, 0x54, 0xC5, 0x51]),
+        1 => random.pick(&[0x47, 0x48, 0x54, 0xC5, 0x51, 0x53, 0x57]),
         _ => random.next_u64() as u8,
     }
 }
@@ -142,6 +194,7 @@ fn damage(random: &mut Random, bytes: &mut Vec<u8>) {
         0 => bytes.truncate(random.below(bytes.len() as u64 + 1) as usize),
         1 => bytes.push(odd_byte(random)),
         2 => bytes.extend_from_slice(&[0xC5, 0x51, 1, 1]),
+        3 => bytes.extend_from_slice(&[0xC5, 0x57, 1, 1, 1, 0]),
         _ => {}
     }
 }
@@ -160,13 +213,19 @@ fn room(random: &mut Random, needed: usize) -> usize {
 #[test]
 fn cards() {
     let mut random = Random::new(1);
-    let mut built = Seen::default();
-    let mut forecast = Seen::default();
+    // What came up by cards with a score card's head mark, and by all others.
+    let mut scores = (Seen::default(), Seen::default());
+    let mut others = (Seen::default(), Seen::default());
     for _ in 0..rounds() {
         let mut card = card(&mut random);
         if rarely(&mut random, 2) {
             damage(&mut random, &mut card);
         }
+        let (forecast, built) = if card.starts_with(&SCORE_HEAD_MARK) {
+            &mut scores
+        } else {
+            &mut others
+        };
         let before = card.clone();
         let told = of_library(staplethread::forecast(&card));
         assert_eq!(told, of_second(second::forecast(&card)), "{card:02X?}");
@@ -183,8 +242,18 @@ fn cards() {
         built.note(&answer);
         assert_eq!(card, before);
     }
-    built.expect("build", &[0, 1, 2, 3, 4, 5, 6, 7, 8, 9, 10, 11]);
+    let (forecast, built) = others;
     forecast.expect("forecast", &[0, 1, 2, 3, 4, 5, 6, 7, 8, 9, 10]);
+    built.expect("build", &[0, 1, 2, 3, 4, 5, 6, 7, 8, 9, 10, 11]);
+    let (forecast, built) = scores;
+    forecast.expect(
+        "forecast of score cards",
+        &[0, 1, 2, 3, 4, 5, 6, 7, 8, 9, 10, 25, 26],
+    );
+    built.expect(
+        "build of score cards",
+        &[0, 1, 2, 3, 4, 5, 6, 7, 8, 9, 10, 11, 25, 26],
+    );
 }
 
 /// A table that Build wrote.
@@ -298,11 +367,18 @@ fn tables() {
     run.expect("run", &[0, 2, 3, 4, 5, 12, 13, 14, 15, 16, 17, 18, 19, 20]);
 }
 
-/// The bit that the library computes is the truth about the numbers.
+/// 0 where the score says that no condition holds, 1 where some do, 2 where all do.
+fn part_of(score: u16, total: u16) -> usize {
+    usize::from(score > 0) + usize::from(score == total)
+}
+
+/// The output that the library computes is the truth about the numbers: the yes or no of a plain
+/// card, the score of a score card.
 #[test]
 fn outputs() {
     let mut random = Random::new(3);
-    let mut counts = [0u64; 2];
+    let mut bits = [0u64; 2];
+    let mut scores = [0u64; 3];
     for _ in 0..rounds() {
         let card = card(&mut random);
         let Ok(report) = staplethread::forecast(&card) else {
@@ -319,14 +395,18 @@ fn outputs() {
                 *digit = random.byte_below(base);
             }
         }
-        let truth = second::holds(&card, &left, &right).expect("digits below B");
+        let truth = second::expected_output(&card, &left, &right).expect("digits below B");
         let mut work = vec![0; usize::from(report.gates)];
-        let bit = staplethread::run(&table, &left, &right, &mut work);
-        assert_eq!(bit, Ok(u8::from(truth)), "{card:02X?} {left:?} {right:?}");
-        counts[usize::from(truth)] += 1;
+        let output = staplethread::run(&table, &left, &right, &mut work).map(u16::from);
+        assert_eq!(output, Ok(truth), "{card:02X?} {left:?} {right:?}");
+        let card = Card::read(&card).expect("the library has accepted it");
+        match card.form {
+            Form::Plain => bits[usize::from(truth)] += 1,
+            Form::Score => scores[part_of(truth, card.total_weight())] += 1,
+        }
     }
-    println!("outputs: {counts:?}");
-    assert!(counts[0] > 0 && counts[1] > 0);
+    println!("outputs: {bits:?}, scores: {scores:?}");
+    assert!(bits.iter().chain(&scores).all(|&count| count > 0));
 }
 
 fn any_prime(random: &mut Random) -> u8 {

@@ -1,6 +1,7 @@
 //! The print program as it is run: a card's bytes on standard input, the listing on standard
 //! output, compared with the second program's. `rt check print` writes the program.
 
+use second::card::{card_bytes, score_card_bytes};
 use second::Random;
 use std::io::{ErrorKind, Write};
 use std::process::{Command, Stdio};
@@ -42,28 +43,33 @@ fn every_relation() {
     for relation in 0..8 {
         for n in [1, 2, 3, 7, 16, 17] {
             for p in [3, 5, 7, 31] {
-                compare(&[0xC5, 0x48, p, 80, 1, 0, 0xC5, 0x51, relation, n]);
+                compare(&card_bytes(p, 80, &[(relation, n)]));
+                compare(&score_card_bytes(p, 80, &[(relation, n, p - 1)]));
             }
         }
     }
 }
 
 #[test]
-fn largest_card() {
-    compare(&[0xC5, 0x48, 251, 100, 1, 0, 0xC5, 0x51, 2, 16]);
+fn largest_cards() {
+    compare(&card_bytes(251, 100, &[(2, 16)]));
+    compare(&score_card_bytes(251, 100, &[(2, 16, 250)]));
 }
 
-/// The card of eight conditions, each length up to it, and longer ones.
 #[test]
-fn every_length() {
-    let mut card = vec![0xC5, 0x48, 11, 90, 8, 0];
-    for relation in [6, 1, 5, 4, 2, 3, 5, 1] {
-        card.extend_from_slice(&[0xC5, 0x51, relation, 2]);
+fn weights() {
+    for weight in [0, 1, 10, 11, 255] {
+        compare(&score_card_bytes(11, 80, &[(4, 2, weight)]));
+        compare(&score_card_bytes(11, 80, &[(4, 2, 1), (6, 1, weight)]));
     }
+}
+
+/// A card, each length up to its own, and longer ones.
+fn compare_lengths(card: Vec<u8>) {
     for length in 0..=card.len() {
         compare(&card[..length]);
     }
-    for length in [1, 4, 1_000, 100_000] {
+    for length in [1, 4, 6, 1_000, 100_000] {
         let mut longer = card.clone();
         longer.resize(card.len() + length, 0);
         compare(&longer);
@@ -72,11 +78,21 @@ fn every_length() {
     }
 }
 
+/// The longest cards of both forms: eight conditions.
+#[test]
+fn every_length() {
+    let relations = [6, 1, 5, 4, 2, 3, 5, 1];
+    compare_lengths(card_bytes(11, 90, &relations.map(|r| (r, 2))));
+    compare_lengths(score_card_bytes(11, 90, &relations.map(|r| (r, 2, 1))));
+}
+
 #[test]
 fn damaged_cards() {
     let mut random = Random::new(6);
-    for _ in 0..300 {
-        let mut card = vec![0xC5, 0x48, 13, 60, 2, 0, 0xC5, 0x51, 4, 2, 0xC5, 0x51, 5, 3];
+    let plain = card_bytes(13, 60, &[(4, 2), (5, 3)]);
+    let score = score_card_bytes(13, 60, &[(4, 2, 5), (5, 3, 7)]);
+    for round in 0..300 {
+        let mut card = if round % 2 == 0 { &plain } else { &score }.clone();
         let place = random.below(card.len() as u64) as usize;
         card[place] = random.next_u64() as u8;
         compare(&card);

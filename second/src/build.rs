@@ -1,6 +1,6 @@
-//! Build: "Writing one condition" and "Whole card".
+//! Build: "Writing one condition", "Whole card" and "Scored queries".
 
-use crate::card::{Card, Condition, Relation};
+use crate::card::{Card, Condition, Form, Relation};
 use crate::field::order_constants;
 use crate::forecast::card_report;
 use crate::refusal::{self, Refusal};
@@ -113,8 +113,27 @@ impl<'a> Writer<'a> {
     }
 }
 
-/// "Conditions in order, then the product tree over their outputs."
+/// "Conditions in order, then the product tree over their outputs"; a score
+/// card has the score in its place: "there is no product tree".
 fn write_card(writer: &mut Writer, card: &Card) -> Wire {
+    let outputs = write_conditions(writer, card);
+    match card.form {
+        Form::Plain => product_tree(writer, outputs),
+        Form::Score => write_score(writer, card, &outputs),
+    }
+}
+
+/// "After all conditions' gates, each condition's output is scaled by its
+/// weight, in card order, and every term after the first is followed by
+/// ADD(sum, it)."
+fn write_score(writer: &mut Writer, card: &Card, outputs: &[Wire]) -> Wire {
+    let weights = card.conditions.iter().map(|condition| condition.weight);
+    write_sum(writer, outputs.iter().copied().zip(weights))
+}
+
+/// The conditions in order, each in the next slots of both sides; their
+/// outputs.
+fn write_conditions(writer: &mut Writer, card: &Card) -> Vec<Wire> {
     // The constants of the prime serve all order conditions of the card.
     let constants = if card.conditions.iter().any(|c| c.relation.is_order()) {
         order_constants(card.p)
@@ -127,7 +146,7 @@ fn write_card(writer: &mut Writer, card: &Card) -> Wire {
         outputs.push(write_condition(writer, card.p, &constants, condition, slot));
         slot += condition.digits;
     }
-    product_tree(writer, outputs)
+    outputs
 }
 
 /// "Digits go low to high", then they are joined, then the last FLIP.
@@ -219,18 +238,28 @@ fn write_powers(writer: &mut Writer, p: u8, z: Wire, powers: &mut Vec<Wire>) {
 /// FLIPs z^(p-1): E."
 fn order_digit(writer: &mut Writer, constants: &[u8], powers: &[Wire], is_lowest: bool) -> Order {
     let last = powers.len() - 1;
-    let mut less = writer.scale(powers[1], constants[0]);
-    let others = (3..last).step_by(2).chain([last]);
-    for (i, &constant) in others.zip(&constants[1..]) {
-        let term = writer.scale(powers[i], constant);
-        less = writer.add(less, term);
-    }
+    let terms = (1..last).step_by(2).chain([last]).map(|i| powers[i]);
+    let less = write_sum(writer, terms.zip(constants.iter().copied()));
     let equal = if is_lowest {
         None
     } else {
         Some(writer.flip(powers[last]))
     };
     Order { less, equal }
+}
+
+/// A SCALE of each gate by its constant, "each after the first followed by
+/// ADD(sum, it)".
+fn write_sum(writer: &mut Writer, terms: impl IntoIterator<Item = (Wire, u8)>) -> Wire {
+    let mut sum: Option<Wire> = None;
+    for (wire, constant) in terms {
+        let term = writer.scale(wire, constant);
+        sum = Some(match sum {
+            None => term,
+            Some(sum) => writer.add(sum, term),
+        });
+    }
+    sum.expect("a sum has a term")
 }
 
 /// "A run of m>=2 digits splits into the low floor(m/2) and the rest; low joins

@@ -1,6 +1,6 @@
 //! Forecast: the answers from the card only, by closed formulas.
 
-use crate::card::{Card, Condition};
+use crate::card::{Card, Condition, Form};
 use crate::field::{ceil_log2, floor_log2};
 use crate::refusal::Refusal;
 use crate::report::{cost, Depth, Report};
@@ -18,36 +18,51 @@ pub fn forecast(card: &[u8]) -> Result<Report, Refusal> {
     Ok(card_report(&Card::read(card)?))
 }
 
-/// "Gates: per order condition .., per equality condition .., plus c-1." The
-/// c-1 gates that join the conditions are products. All counts fit a u16: no
-/// card has more than 7113 gates.
+/// "Gates: per order condition .., per equality condition ..", and those that
+/// join the conditions. All counts fit a u16: no card has more than 7114 gates.
 pub fn card_report(card: &Card) -> Report {
-    let joins = card.conditions.len() as u32 - 1;
-    let mut gates = joins;
-    let mut products = joins;
+    let (mut gates, mut products) = joining(card);
     let mut squares = 0;
-    let mut weights = 0;
+    let mut powers = 0;
+    let mut deepest = 0;
     for condition in &card.conditions {
         let share = share(card.p, condition);
         gates += share.gates;
         products += share.products;
         squares += share.squares;
-        weights += 1 << share.depth;
+        powers += 1 << share.depth;
+        deepest = deepest.max(share.depth);
     }
+    let depth = match card.form {
+        Form::Plain => tree_depth(powers),
+        // "Its depth is D plus the largest ceil(log2 n)."
+        Form::Score => deepest,
+    };
     let (products, squares) = (products as u16, squares as u16);
     Report {
         gates: gates as u16,
         products,
         squares,
         cost: cost(card.weight, products, squares),
-        depth: Depth(tree_depth(weights)),
+        depth: Depth(depth as u16),
+    }
+}
+
+/// The gates that join the conditions, and the products among them. A plain
+/// card has c-1, all of them products. A score card has c SCALEs and c-1 ADDs,
+/// and no product.
+fn joining(card: &Card) -> (u32, u32) {
+    let count = card.conditions.len() as u32;
+    match card.form {
+        Form::Plain => (count - 1, count - 1),
+        Form::Score => (2 * count - 1, 0),
     }
 }
 
 /// The depth of a product tree that joins the least deep first: the least d
-/// with 2^d not below the sum of 2^depth over its factors.
-fn tree_depth(weights: u32) -> u16 {
-    ceil_log2(weights) as u16
+/// with 2^d not below the sum of the powers 2^depth of its factors.
+fn tree_depth(powers: u32) -> u32 {
+    ceil_log2(powers)
 }
 
 fn share(p: u8, condition: &Condition) -> Share {

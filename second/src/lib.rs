@@ -1,5 +1,6 @@
 //! The query builder: cards, gate tables, the plain run of a table, digit
-//! coding and a forecast, as the document on the builder's rules has them.
+//! coding and a forecast, as the document on the builder's rules has them, and
+//! scored queries, as the request for them does.
 
 pub mod build;
 pub mod card;
@@ -19,7 +20,7 @@ pub mod table;
 pub use build::build;
 pub use cases::cases;
 pub use digits::{decode, encode};
-pub use direct::holds;
+pub use direct::expected_output;
 pub use forecast::forecast;
 pub use listing::listing;
 pub use random::Random;

@@ -1,4 +1,5 @@
-//! The numbers of "Operations and what they turn away".
+//! The numbers of "Operations and what they turn away", and those of scored
+//! queries.
 
 /// A refusal answers its number and nothing else.
 pub type Refusal = u8;
@@ -27,6 +28,8 @@ pub const OUT_ROOM: Refusal = 21;
 pub const NUMBER_LARGE: Refusal = 22;
 pub const DIGIT_LARGE: Refusal = 23;
 pub const NUMBER_OVERFLOW: Refusal = 24;
+pub const CONDITION_WEIGHT: Refusal = 25;
+pub const TOTAL_WEIGHT: Refusal = 26;
 
 /// `Ok` where the condition holds, else the refusal.
 pub fn demand(condition: bool, refusal: Refusal) -> Result<(), Refusal> {

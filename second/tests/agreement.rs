@@ -1,14 +1,23 @@
 //! Parts of the package against each other.
 
-use second::card::{card_bytes as card, Card, Relation};
+use second::card::{card_bytes as card, score_card_bytes as score_card, Card, Form, Relation};
 use second::field::{half_range, PRIMES};
-use second::table::{Kind, Table};
-use second::{build, check, decode, encode, forecast, holds, run, trim, Random};
+use second::table::{Gate, Kind, Table};
+use second::{build, check, decode, encode, expected_output, forecast, run, trim, Random};
 
 const RELATIONS: [u8; 6] = [1, 2, 3, 4, 5, 6];
 
-/// A card of one to eight conditions with at most sixteen digits.
+/// A card of either form.
 fn random_card(random: &mut Random) -> Vec<u8> {
+    if random.below(2) == 0 {
+        random_plain_card(random)
+    } else {
+        random_score_card(random)
+    }
+}
+
+/// A card of one to eight conditions with at most sixteen digits.
+fn random_plain_card(random: &mut Random) -> Vec<u8> {
     let p = random.pick(&PRIMES);
     let weight = 50 + random.byte_below(51);
     let mut room = 16;
@@ -22,6 +31,26 @@ fn random_card(random: &mut Random) -> Vec<u8> {
         conditions.push((random.pick(&RELATIONS), n));
     }
     card(p, weight, &conditions)
+}
+
+/// The same with weights whose total is at most p-1.
+fn random_score_card(random: &mut Random) -> Vec<u8> {
+    let plain = Card::read(&random_plain_card(random)).unwrap();
+    let mut room = plain.p - 1;
+    let mut conditions = Vec::new();
+    for condition in &plain.conditions {
+        if room == 0 {
+            break;
+        }
+        let weight = 1 + random.byte_below(room.div_ceil(2));
+        room -= weight;
+        conditions.push((random.pick(&RELATIONS), condition.digits as u8, weight));
+    }
+    // Now and then the last weight makes the total p-1.
+    if random.below(4) == 0 {
+        conditions.last_mut().unwrap().2 += room;
+    }
+    score_card(plain.p, plain.weight, &conditions)
 }
 
 /// Builds the card and compares what Forecast, Build, Check and Trim say.
@@ -44,8 +73,8 @@ fn compare(card: &[u8], table: &[u8], left: &[u8], right: &[u8]) {
     let gates = table.len() / 8 - 1;
     let mut work = vec![0xEE; gates + 2];
     let output = run(table, left, right, &mut work).unwrap();
-    let expected = holds(card, left, right).unwrap();
-    assert_eq!(output, u8::from(expected), "{card:?} {left:?} {right:?}");
+    let expected = expected_output(card, left, right).unwrap();
+    assert_eq!(u16::from(output), expected, "{card:?} {left:?} {right:?}");
     assert_eq!(work[gates - 1], output);
     assert_eq!(work[gates..], [0xEE; 2]);
 }
@@ -56,6 +85,7 @@ fn forecast_is_build_for_each_prime_relation_and_digit_count() {
         for relation in RELATIONS {
             for n in 1..=16 {
                 built(&card(p, 50 + n, &[(relation, n)]));
+                built(&score_card(p, 50 + n, &[(relation, n, p - n.min(p - 1))]));
             }
         }
     }
@@ -110,7 +140,7 @@ fn random_runs_are_right() {
 }
 
 #[test]
-fn holds_is_what_the_decoded_numbers_say() {
+fn expected_outputs_are_what_the_decoded_numbers_say() {
     let mut random = Random::new(3);
     for _ in 0..3_000 {
         let p = random.pick(&PRIMES);
@@ -121,21 +151,164 @@ fn holds_is_what_the_decoded_numbers_say() {
         let y = decode(p, &right).unwrap();
         let truths = [x < y, x <= y, x > y, x >= y, x == y, x != y];
         for (relation, truth) in (1..).zip(truths) {
-            let card = card(p, 50, &[(relation, n)]);
-            assert_eq!(holds(&card, &left, &right), Some(truth));
+            let plain = card(p, 50, &[(relation, n)]);
+            let bit = expected_output(&plain, &left, &right);
+            assert_eq!(bit, Some(u16::from(truth)));
+            let score = score_card(p, 50, &[(relation, n, p - 1)]);
+            let weight = expected_output(&score, &left, &right);
+            assert_eq!(weight, Some(if truth { u16::from(p) - 1 } else { 0 }));
         }
     }
 }
 
 #[test]
-fn holds_answers_nothing_for_what_is_refused() {
-    let card = card(5, 50, &[(1, 2)]);
-    assert_eq!(holds(&card, &[2, 2], &[0, 0]), Some(false));
-    assert_eq!(holds(&card, &[3, 2], &[0, 0]), None);
-    assert_eq!(holds(&card, &[2, 2], &[0, 3]), None);
-    assert_eq!(holds(&card, &[2], &[0, 0]), None);
-    assert_eq!(holds(&card, &[2, 2], &[0, 0, 0]), None);
-    assert_eq!(holds(&card[..9], &[2, 2], &[0, 0]), None);
+fn scores_are_the_weights_that_hold() {
+    let card = score_card(251, 50, &[(1, 1, 1), (5, 2, 2), (6, 1, 47), (4, 1, 200)]);
+    let score = |left: [u8; 5], right: [u8; 5]| expected_output(&card, &left, &right);
+    assert_eq!(score([1, 0, 9, 4, 0], [1, 0, 8, 4, 1]), Some(0));
+    assert_eq!(score([0, 0, 9, 4, 0], [1, 0, 8, 4, 1]), Some(1));
+    assert_eq!(score([1, 0, 9, 4, 0], [1, 0, 9, 4, 1]), Some(2));
+    assert_eq!(score([1, 0, 9, 4, 0], [1, 0, 8, 5, 1]), Some(47));
+    assert_eq!(score([1, 0, 9, 4, 1], [1, 0, 8, 4, 1]), Some(200));
+    assert_eq!(score([0, 8, 9, 4, 2], [1, 8, 9, 3, 1]), Some(250));
+}
+
+#[test]
+fn expected_outputs_are_of_what_is_accepted() {
+    for card in [
+        card(5, 50, &[(1, 2)]),
+        score_card(5, 50, &[(1, 1, 3), (3, 1, 0)]),
+        score_card(5, 50, &[(1, 1, 3), (3, 1, 1)]),
+    ] {
+        let accepted = forecast(&card).is_ok();
+        let output = expected_output(&card, &[2, 0], &[0, 0]);
+        assert_eq!(output, accepted.then_some(0));
+        assert_eq!(expected_output(&card, &[3, 2], &[0, 0]), None);
+        assert_eq!(expected_output(&card, &[2, 2], &[0, 3]), None);
+        assert_eq!(expected_output(&card, &[2], &[0, 0]), None);
+        assert_eq!(expected_output(&card, &[2, 2], &[0, 0, 0]), None);
+        assert_eq!(expected_output(&card[..9], &[2, 2], &[0, 0]), None);
+    }
+}
+
+/// All digits of two conditions, each relation beside each, with the smallest
+/// weights and with those that fill p-1.
+#[test]
+fn small_scores_are_right() {
+    for p in [3, 5, 7] {
+        let base = half_range(p);
+        for (first, second) in RELATIONS
+            .into_iter()
+            .flat_map(|r| RELATIONS.map(|s| (r, s)))
+        {
+            for weights in [(1, 1), (1, p - 2), (p - 2, 1)] {
+                let conditions = [(first, 1, weights.0), (second, 1, weights.1)];
+                let card = score_card(p, 100, &conditions);
+                let table = built(&card);
+                for digits in 0..u32::from(base).pow(4) {
+                    let digit = |place| (digits / u32::from(base).pow(place)) as u8 % base;
+                    let (left, right) = ([digit(0), digit(1)], [digit(2), digit(3)]);
+                    compare(&card, &table, &left, &right);
+                }
+            }
+        }
+    }
+}
+
+/// "With all digits below B, a change in one condition's left digits moves the
+/// score by at most that weight."
+#[test]
+fn a_condition_moves_the_score_by_its_weight_at_most() {
+    let mut random = Random::new(5);
+    for _ in 0..300 {
+        let bytes = random_score_card(&mut random);
+        let table = built(&bytes);
+        let card = Card::read(&bytes).unwrap();
+        let base = half_range(card.p);
+        let mut work = vec![0; table.len() / 8 - 1];
+        let mut left = random.bytes_below(base, card.digits());
+        let right = random.bytes_below(base, card.digits());
+        let mut score = run(&table, &left, &right, &mut work).unwrap();
+        let mut slot = 0;
+        for condition in &card.conditions {
+            left[slot..slot + condition.digits].fill_with(|| random.byte_below(base));
+            slot += condition.digits;
+            let moved = run(&table, &left, &right, &mut work).unwrap();
+            assert!(moved.abs_diff(score) <= condition.weight, "{bytes:?}");
+            score = moved;
+        }
+    }
+}
+
+/// The conditions' own gates, products and squares and 2c-1 gates more, and the
+/// depth of the deepest condition.
+#[test]
+fn score_reports_are_those_of_their_conditions() {
+    let mut random = Random::new(6);
+    for _ in 0..2_000 {
+        let bytes = random_score_card(&mut random);
+        let report = forecast(&bytes).unwrap();
+        let (mut gates, mut products, mut squares, mut depth) = (0, 0, 0, 0);
+        for record in bytes[6..].chunks(6) {
+            let own = forecast(&card(bytes[2], bytes[3], &[(record[2], record[3])])).unwrap();
+            gates += own.gates + 2;
+            products += own.products;
+            squares += own.squares;
+            depth = depth.max(own.depth.0);
+        }
+        assert_eq!(report.gates, gates - 1);
+        assert_eq!((report.products, report.squares), (products, squares));
+        assert_eq!(report.depth.0, depth);
+        let cost = 100 * u32::from(products) + u32::from(bytes[3]) * u32::from(squares);
+        assert_eq!(report.cost.0, cost);
+    }
+}
+
+/// "After all conditions' gates, each condition's output is scaled by its
+/// weight, in card order, and every term after the first is followed by
+/// ADD(sum, it)": SCALE, SCALE, ADD, SCALE, ADD and so on.
+#[test]
+fn scores_end_with_scales_and_adds() {
+    let mut random = Random::new(7);
+    for _ in 0..500 {
+        let bytes = random_score_card(&mut random);
+        let mut expected = Vec::new();
+        let mut outputs = Vec::new();
+        let mut number = 0;
+        for record in bytes[6..].chunks(6) {
+            number += forecast(&card(bytes[2], 50, &[(record[2], record[3])]))
+                .unwrap()
+                .gates;
+            outputs.push((number - 1, u16::from(record[4])));
+        }
+        for (place, (a, b)) in outputs.into_iter().enumerate() {
+            let kind = Kind::Scale;
+            expected.push(Gate { kind, a, b });
+            number += 1;
+            if place > 0 {
+                // The sum is the gate before the SCALE.
+                let (kind, a, b) = (Kind::Add, number - 2, number - 1);
+                expected.push(Gate { kind, a, b });
+                number += 1;
+            }
+        }
+        let table = built(&bytes);
+        let gates: Vec<Gate> = Table::read(&table).unwrap().gates().collect();
+        assert_eq!(gates.len(), usize::from(number));
+        assert_eq!(gates[gates.len() - expected.len()..], expected, "{bytes:?}");
+    }
+}
+
+/// A score card's conditions are written as a plain card's.
+#[test]
+fn the_conditions_of_both_forms_have_the_same_gates() {
+    let plain = built(&card(13, 77, &[(3, 4), (6, 2), (2, 1)]));
+    let score = built(&score_card(13, 77, &[(3, 4, 1), (6, 2, 10), (2, 1, 1)]));
+    // Two MULs there, three SCALEs and two ADDs here.
+    let shared = plain.len() - 2 * 8;
+    assert_eq!(score.len(), shared + 5 * 8);
+    assert_eq!(plain[..6], score[..6]);
+    assert_eq!(plain[8..shared], score[8..shared]);
 }
 
 #[test]
@@ -184,6 +357,13 @@ fn cards_read_back() {
     assert_eq!(card.conditions[0].relation, Relation::Greater);
     assert_eq!(card.conditions[1].relation, Relation::Unequal);
     assert_eq!(card.conditions[0].digits, 4);
+    assert_eq!((card.form, card.total_weight()), (Form::Plain, 0));
+    let card = Card::read(&score_card(31, 77, &[(3, 4, 9), (6, 12, 21)])).unwrap();
+    assert_eq!((card.p, card.weight, card.digits()), (31, 77, 16));
+    assert_eq!((card.form, card.total_weight()), (Form::Score, 30));
+    assert_eq!(card.conditions[1].relation, Relation::Unequal);
+    assert_eq!(card.conditions[1].digits, 12);
+    assert_eq!(card.conditions[1].weight, 21);
 }
 
 #[test]
@@ -199,6 +379,14 @@ fn tables_read_back() {
         lefts.map(|gate| gate.a).collect::<Vec<_>>(),
         [0, 1, 2, 3, 4, 5]
     );
+}
+
+#[test]
+fn the_longest_tables_of_cards() {
+    assert_eq!(built(&card(251, 50, &[(2, 16)])).len(), 8 * 7_114);
+    assert_eq!(built(&score_card(251, 50, &[(2, 16, 1)])).len(), 8 * 7_115);
+    let two = score_card(251, 50, &[(2, 15, 1), (4, 1, 1)]);
+    assert_eq!(built(&two).len(), 8 * 7_115);
 }
 
 #[test]

@@ -1,10 +1,14 @@
-//! The cases that the document gives, starred ones too.
+//! The cases that the document gives, starred ones too, and the rules of scored
+//! queries.
 
-use second::card::card_bytes as card;
+use second::card::{card_bytes as card, score_card_bytes as score_card};
 use second::field::{order_constants, PRIMES};
 use second::{build, check, decode, encode, forecast, listing, run, Cost, Depth, Refusal, Report};
 
 const BENCH: [u8; 10] = [0xC5, 0x48, 0x03, 0x4B, 1, 0, 0xC5, 0x51, 1, 1];
+
+/// The same card as a score card, with a weight of 1.
+const SCORE_BENCH: [u8; 12] = [0xC5, 0x53, 0x03, 0x4B, 1, 0, 0xC5, 0x57, 1, 1, 1, 0];
 
 fn report(gates: u16, products: u16, squares: u16, cost: u32, depth: u16) -> Report {
     Report {
@@ -108,6 +112,84 @@ fn wrong_turns() {
     assert_eq!(run(&table, &[0], &[2], &mut [0; 11]), Ok(1));
     // z^(p-1) is 0 at z=0, so equal digits are not less.
     assert_eq!(run(&table, &[1], &[1], &mut [0; 11]), Ok(0));
+}
+
+#[test]
+fn score_listing() {
+    let text = "gates 8 products 0 squares 1 cost 75 depth 1\n\
+                0 LEFT 0 0\n1 RIGHT 0 0\n2 SUB 0 1\n3 MUL 2 2\n\
+                4 SCALE 2 1\n5 SCALE 3 2\n6 ADD 4 5\n7 SCALE 6 1\n";
+    assert_eq!(listing(&SCORE_BENCH), text);
+    assert_eq!(listing(&SCORE_BENCH[..11]), "refused 7\n");
+}
+
+#[test]
+fn score_counts() {
+    agree(&SCORE_BENCH, report(8, 0, 1, 75, 1));
+    // Distance at least 20 m for 5, grade above 3 for 3: no product joins them.
+    let card = score_card(31, 75, &[(4, 3, 5), (3, 1, 3)]);
+    agree(&card, report(235, 59, 32, 8300, 7));
+    let table = built(&card);
+    let mut work = [0; 235];
+    let query = [4, 1, 0, 3];
+    for (record, score) in [
+        ([12, 0, 0, 3], 0),
+        ([2, 2, 0, 3], 5),
+        ([12, 0, 0, 5], 3),
+        ([2, 2, 0, 4], 8),
+    ] {
+        assert_eq!(run(&table, &record, &query, &mut work), Ok(score));
+    }
+}
+
+/// "The length rule 7 reads 6+6c here", and the marks are the form's own.
+#[test]
+fn forms() {
+    let plain = card(7, 60, &[(1, 1), (5, 2), (6, 1)]);
+    let score = score_card(7, 60, &[(1, 1, 2), (5, 2, 3)]);
+    assert_eq!(plain.len(), score.len());
+    refused(&[&plain[..6], &score[6..]].concat(), 2);
+    refused(&[&score[..6], &plain[6..]].concat(), 2);
+    refused(&score[..14], 7);
+    refused(&[&score[..], &score[6..12]].concat(), 7);
+    for (mut card, place, mark) in [(plain, 11, 0x57), (score, 13, 0x51)] {
+        card[place] = mark;
+        refused(&card, 2);
+    }
+}
+
+/// "25, a weight of 0 or of p and more, after 9 for its record." "A spare that
+/// is not 0 gives 5, after 25."
+#[test]
+fn weights() {
+    for p in [3, 31, 251] {
+        for weight in [0, p, 255] {
+            refused(&score_card(p, 50, &[(1, 1, weight)]), 25);
+            refused(&score_card(p, 50, &[(1, 17, weight)]), 9);
+            let mut card = score_card(p, 50, &[(1, 1, weight), (0, 0, 0)]);
+            card[11] = 1;
+            refused(&card, 25);
+            card[10] = p - 1;
+            refused(&card, 5);
+            card[11] = 0;
+            refused(&card, 8);
+        }
+        assert!(forecast(&score_card(p, 50, &[(1, 1, 1)])).is_ok());
+        assert!(forecast(&score_card(p, 50, &[(1, 1, p - 1)])).is_ok());
+    }
+}
+
+/// "26, total weight of p or more, after 10."
+#[test]
+fn total_weights() {
+    assert!(forecast(&score_card(3, 50, &[(5, 1, 1); 2])).is_ok());
+    refused(&score_card(3, 50, &[(5, 1, 1); 3]), 26);
+    refused(&score_card(251, 50, &[(5, 1, 128); 2]), 26);
+    refused(&score_card(251, 50, &[(5, 1, 250); 8]), 26);
+    assert!(forecast(&score_card(13, 50, &[(1, 8, 6), (5, 8, 6)])).is_ok());
+    refused(&score_card(13, 50, &[(1, 8, 6), (5, 8, 7)]), 26);
+    refused(&score_card(13, 50, &[(1, 8, 6), (5, 9, 7)]), 10);
+    refused(&score_card(13, 50, &[(1, 8, 6), (5, 9, 13)]), 25);
 }
 
 #[test]

@@ -1,7 +1,7 @@
 //! The case script and its answers.
 
-use second::card::CONDITION_BYTES;
-use second::{answers, cases, holds};
+use second::card::{Card, Form, SCORE_HEAD_MARK};
+use second::{answers, cases, expected_output};
 use std::collections::{BTreeMap, BTreeSet};
 
 /// The script's lines, each with its answer where it has one.
@@ -62,7 +62,7 @@ fn the_script_keeps_its_form() {
     let script = cases();
     assert!(script.is_ascii() && script.ends_with('\n') && !script.contains('\r'));
     assert!(script.len() <= 250_000);
-    assert!((3_000..=8_000).contains(&script.lines().count()));
+    assert!((3_000..=10_000).contains(&script.lines().count()));
     assert_eq!(script, cases());
     for line in script.lines() {
         let words: Vec<&str> = line.split(' ').collect();
@@ -102,8 +102,8 @@ fn each_refusal_of_each_operation_comes_up() {
         }
     }
     let expected: [(&str, &[u8]); 6] = [
-        ("forecast", &[1, 2, 3, 4, 5, 6, 7, 8, 9, 10]),
-        ("build", &[1, 2, 3, 4, 5, 6, 7, 8, 9, 10, 11]),
+        ("forecast", &[1, 2, 3, 4, 5, 6, 7, 8, 9, 10, 25, 26]),
+        ("build", &[1, 2, 3, 4, 5, 6, 7, 8, 9, 10, 11, 25, 26]),
         ("check", &[2, 3, 4, 5, 12, 13, 14, 15, 16, 17]),
         ("run", &[2, 3, 4, 5, 12, 13, 14, 15, 16, 17, 18, 19, 20]),
         ("encode", &[3, 9, 21, 22]),
@@ -115,6 +115,39 @@ fn each_refusal_of_each_operation_comes_up() {
         assert_eq!(found, numbers, "{operation}");
         assert!(counts[operation].values().all(|&n| n >= 3), "{operation}");
     }
+}
+
+#[test]
+fn each_refusal_of_score_cards_comes_up() {
+    let script = cases();
+    let text = answers(&script);
+    let mut counts: BTreeMap<&str, BTreeMap<u8, usize>> = BTreeMap::new();
+    let mut record_spares = 0;
+    for (line, answer) in lines_with_answers(&script, &text) {
+        let Some(number) = answer.and_then(refusal) else {
+            continue;
+        };
+        if !matches!(word(line), "forecast" | "build") {
+            continue;
+        }
+        let card = bytes(line.split(' ').next_back().unwrap());
+        if !card.starts_with(&SCORE_HEAD_MARK) {
+            continue;
+        }
+        *counts
+            .entry(word(line))
+            .or_default()
+            .entry(number)
+            .or_default() += 1;
+        // 5 is the head's spare, or a record's where that one is 0.
+        record_spares += usize::from(number == 5 && card[5] == 0);
+    }
+    let numbers = |operation| counts[operation].keys().copied().collect::<Vec<u8>>();
+    assert_eq!(numbers("forecast"), [1, 2, 3, 4, 5, 6, 7, 8, 9, 10, 25, 26]);
+    // Only Forecast is asked of what is too short for a head.
+    assert_eq!(numbers("build"), [2, 3, 4, 5, 6, 7, 8, 9, 10, 11, 25, 26]);
+    assert!(counts["forecast"].values().all(|&n| n >= 3));
+    assert!(record_spares >= 3);
 }
 
 #[test]
@@ -201,56 +234,118 @@ fn each_operand_of_each_kind_is_turned_away() {
     assert_eq!(refused.len(), 14);
 }
 
-/// Where the table is a built one, its output is what the numbers say.
-#[test]
-fn outputs_are_what_the_numbers_say() {
-    let script = cases();
-    let text = answers(&script);
+/// A run of a table as Build left it.
+struct BuiltRun<'a> {
+    line: &'a str,
+    card: Vec<u8>,
+    left: Vec<u8>,
+    right: Vec<u8>,
+    output: u16,
+}
+
+/// The runs of built tables that have an output.
+fn built_runs<'a>(lines: &[(&'a str, Option<&str>)]) -> Vec<BuiltRun<'a>> {
     let mut card = Vec::new();
-    let mut compared = 0;
-    for (line, answer) in lines_with_answers(&script, &text) {
+    let mut runs = Vec::new();
+    for &(line, answer) in lines {
         let words: Vec<&str> = line.split(' ').collect();
         match words[0] {
             "build" => card = bytes(words[2]),
             "table" | "set" | "cut" => card.clear(),
-            "run" => {
-                let Some(output) = answer.unwrap().strip_prefix("output ") else {
-                    continue;
-                };
-                let said = holds(&card, &bytes(words[2]), &bytes(words[3]));
-                if let Some(said) = said {
-                    assert!(output.starts_with(if said { "1," } else { "0," }), "{line}");
-                    compared += 1;
+            "run" if !card.is_empty() => {
+                if let Some(rest) = answer.unwrap().strip_prefix("output ") {
+                    runs.push(BuiltRun {
+                        line,
+                        card: card.clone(),
+                        left: bytes(words[2]),
+                        right: bytes(words[3]),
+                        output: rest.split(',').next().unwrap().parse().unwrap(),
+                    });
                 }
             }
             _ => {}
         }
     }
-    assert!(compared > 900, "{compared}");
+    runs
 }
 
-/// Each relation is built at each of these primes, and eight conditions are.
+/// Where the table is a built one, its output is what the numbers say.
+#[test]
+fn outputs_are_what_the_numbers_say() {
+    let script = cases();
+    let text = answers(&script);
+    let mut plain = 0;
+    let mut scores = 0;
+    for run in built_runs(&lines_with_answers(&script, &text)) {
+        let Some(said) = expected_output(&run.card, &run.left, &run.right) else {
+            continue;
+        };
+        assert_eq!(run.output, said, "{}", run.line);
+        match Card::read(&run.card).unwrap().form {
+            Form::Plain => plain += 1,
+            Form::Score => scores += 1,
+        }
+    }
+    assert!(plain > 900, "{plain}");
+    assert!(scores > 400, "{scores}");
+}
+
+/// Of one to eight conditions none hold and all, and of two to eight a part.
+#[test]
+fn scores_of_none_some_and_all_conditions_come_up() {
+    let script = cases();
+    let text = answers(&script);
+    let mut none = BTreeSet::new();
+    let mut some = BTreeSet::new();
+    let mut all = BTreeSet::new();
+    for run in built_runs(&lines_with_answers(&script, &text)) {
+        let Some(score) = expected_output(&run.card, &run.left, &run.right) else {
+            continue;
+        };
+        let card = Card::read(&run.card).unwrap();
+        if card.form == Form::Score {
+            let scores = match score {
+                0 => &mut none,
+                score if score < card.total_weight() => &mut some,
+                _ => &mut all,
+            };
+            scores.insert(card.conditions.len());
+        }
+    }
+    assert!((1..=8).all(|count| none.contains(&count)), "{none:?}");
+    assert!((1..=8).all(|count| all.contains(&count)), "{all:?}");
+    assert!((2..=8).all(|count| some.contains(&count)), "{some:?}");
+}
+
+/// Each relation is built at each of these primes, and one to eight conditions
+/// are, in both forms.
 #[test]
 fn relations_primes_and_conditions_come_up() {
     let script = cases();
     let text = answers(&script);
-    let mut relations = BTreeSet::new();
-    let mut counts = BTreeSet::new();
-    for (line, answer) in lines_with_answers(&script, &text) {
-        if word(line) == "build" && answer.unwrap().starts_with("gates") {
-            let card = bytes(line.split(' ').nth(2).unwrap());
-            counts.insert(card[4]);
-            for condition in card[6..].chunks(CONDITION_BYTES) {
-                relations.insert((card[2], condition[2]));
+    for (form, primes) in [
+        (Form::Plain, &[3, 5, 7, 11, 13, 17, 31, 127, 251][..]),
+        (Form::Score, &[3, 5, 251][..]),
+    ] {
+        let mut relations = BTreeSet::new();
+        let mut counts = BTreeSet::new();
+        for (line, answer) in lines_with_answers(&script, &text) {
+            if word(line) == "build" && answer.unwrap().starts_with("gates") {
+                let card = bytes(line.split(' ').nth(2).unwrap());
+                if card[..2] == form.head_mark() {
+                    counts.insert(card[4]);
+                    let records = card[6..].chunks(form.condition_bytes());
+                    relations.extend(records.map(|record| (card[2], record[2])));
+                }
             }
         }
-    }
-    for p in [3, 5, 7, 11, 13, 17, 31, 127, 251] {
-        for relation in 1..=6 {
-            assert!(relations.contains(&(p, relation)), "{p} {relation}");
+        for &p in primes {
+            for relation in 1..=6 {
+                assert!(relations.contains(&(p, relation)), "{p} {relation}");
+            }
         }
+        assert!((1..=8).all(|count| counts.contains(&count)));
     }
-    assert!((1..=8).all(|count| counts.contains(&count)));
 }
 
 #[test]

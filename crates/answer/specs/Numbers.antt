@@ -1,7 +1,7 @@
--- The number of each refusal (document 01, "Operations and what they turn away"), with the rule that gives it.
+-- The number of each refusal (document 01, "Operations and what they turn away"; document 02, E1), with the rule that gives it.
 use Prim.Native.Nat.{ℕ}
 use Rattle.answer.specs.declared.Refusal.{Refusal}
-use Rattle.answer.specs.declared.Refusal.the-variants.{CardTooShort, WrongMark, PrimeNotListed, WeightOutOfRange, SpareNotZero, ConditionCount, CardLength, UnknownRelation, DigitCount, TooManyDigits, TableBufferTooSmall, TableHeadTooShort, SlotCount, GateCount, TableTooShort, UnknownKind, WrongOperand, ListLength, ValueTooLarge, WorkBufferTooSmall, OutBufferTooSmall, NumberTooLarge, DigitTooLarge, NumberTooWide}
+use Rattle.answer.specs.declared.Refusal.the-variants.{CardTooShort, WrongMark, PrimeNotListed, WeightOutOfRange, SpareNotZero, ConditionCount, CardLength, UnknownRelation, DigitCount, TooManyDigits, TableBufferTooSmall, TableHeadTooShort, SlotCount, GateCount, TableTooShort, UnknownKind, WrongOperand, ListLength, ValueTooLarge, WorkBufferTooSmall, OutBufferTooSmall, NumberTooLarge, DigitTooLarge, NumberTooWide, ScoreWeight, TotalWeight}
 
 abbrev pub refusalNumber : Refusal → ℕ
 -- card under 6 bytes
@@ -16,7 +16,7 @@ refusalNumber WeightOutOfRange = 4
 refusalNumber SpareNotZero = 5
 -- c not 1 to 8
 refusalNumber ConditionCount = 6
--- length not 6+4c
+-- length not 6+4c, or 6+6c of a score card
 refusalNumber CardLength = 7
 -- relation not 1 to 6
 refusalNumber UnknownRelation = 8
@@ -52,3 +52,7 @@ refusalNumber NumberTooLarge = 22
 refusalNumber DigitTooLarge = 23
 -- number above 2^64-1
 refusalNumber NumberTooWide = 24
+-- a condition's weight of 0, or of p and more
+refusalNumber ScoreWeight = 25
+-- total weight of p or more
+refusalNumber TotalWeight = 26

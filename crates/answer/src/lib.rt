@@ -5,7 +5,7 @@ ghost use Rattle.answer.specs.Numbers.{refusalNumber};
 ghost use Rattle.answer.specs.Report.{costOf};
 
 // Why an operation turns its input away: one name for each number of document 01, "Operations and
-// what they turn away", in the order of the numbers.
+// what they turn away", and of document 02, E1, in the order of the numbers.
 pub enum Refusal {
     CardTooShort,
     WrongMark,
@@ -31,6 +31,8 @@ pub enum Refusal {
     NumberTooLarge,
     DigitTooLarge,
     NumberTooWide,
+    ScoreWeight,
+    TotalWeight,
 }
 
 // The number of a refusal.
@@ -62,6 +64,8 @@ pub fn refusal_number(why: Refusal) -> u8
         Refusal::NumberTooLarge => 22,
         Refusal::DigitTooLarge => 23,
         Refusal::NumberTooWide => 24,
+        Refusal::ScoreWeight => 25,
+        Refusal::TotalWeight => 26,
     }
 }
 

@@ -8,9 +8,10 @@ use native.Mathlib.Omega.{arith}
 use native.Mathlib.Numerals.{add-one}
 use lib.ListN.{length, take, drop, set, length-append, drop-of-length-le}
 use Rattle.circuit.specs.Segment as segment
-use Rattle.comparison.specs.Condition.{Condition}
+use Rattle.comparison.specs.Condition.{Condition, unweighed}
 use Rattle.comparison.specs.Tests.{baseTests}
 use Rattle.comparison.specs.Writing.{conditionSegment}
+use Rattle.comparison.proofs.Condition.{weighs-nothing}
 use Rattle.query.specs.Whole.{Draft, begin, add, addAll}
 use Rattle.query.proofs.Whole.{all-more}
 use Rattle.card.specs.declared.Record.{Record}
@@ -68,15 +69,16 @@ module _ (p : ℕ) (cs : List Condition) (table₀ table : List ℕ) (pen : Pen)
   abbrev after : List Condition
   after = drop (k + 1) cs
 
+  -- its gates, as they are written: its weight has no part in them
   abbrev own : segment.Segment
-  own = conditionSegment p c (pen .next)
+  own = conditionSegment p (unweighed c) (pen .next)
 
   -- the pen stands after the draft
   next-is : pen .next ≡ length (a .draft .gates)
   next-is = a .wrote .number ∙ omega arith
 
   own-is : own ≡ conditionSegment p c (length (a .draft .gates))
-  own-is = ap (conditionSegment p c) next-is
+  own-is = weighs-nothing (baseTests p) p c (pen .next) ∙ ap (conditionSegment p c) next-is
 
   -- with this condition, and with those after it
   abbrev longer : Draft

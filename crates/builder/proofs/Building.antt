@@ -1,51 +1,48 @@
--- From what was written to what Build answers and leaves: the conditions' gates and the product tree over their outputs are the table's gates,
--- and the pen's counts are the report's.
+-- From what was written to what Build answers and leaves: the conditions' gates and what ends the table over their outputs are the table's
+-- gates, and the pen's counts are the report's.
 -- Assumes nothing.
 use mathlib.Core.Path.{_≡_, refl, sym, ap, _∙_}
 use mathlib.Core.Bool.{true}
-use mathlib.Core.List.{List, [], _∷_}
+use mathlib.Core.List.{List, map}
 use Prim.Native.Nat.{ℕ, _+_, _-_, _*_, _≤_, _<_}
 use native.Mathlib.Omega.{arith}
 use native.Mathlib.Nat.{zero-add}
 use borrow.Author.Tests.{lt-ltb}
 use lib.Dec.{ltb}
-use lib.ListN.{length, take, length-append}
+use lib.ListN.{length, length-append}
 use lib.Seq.{sets}
 use Rattle.answer.specs.Outcome.{refused, accepted}
 use Rattle.answer.specs.Report.{Report}
 use Rattle.answer.proofs.Outcome.{was-refused, accepted-same}
 use Rattle.field.specs.Logarithm.{clog}
 use Rattle.field.proofs.Logarithm.{clog-is-ceiling}
-use Rattle.digits.specs.Number.{mostDigits}
 use Rattle.circuit.specs.Depth.{depth}
 use Rattle.circuit.specs.Every.{Every}
-use Rattle.circuit.specs.ProductTree.{productTree}
 use Rattle.circuit.specs.Report.{report}
 use Rattle.circuit.specs.Segment as segment
+use Rattle.circuit.specs.Sums.{largest}
 use Rattle.circuit.specs.Table.{Head, headBytes, mostGates}
 use Rattle.circuit.proofs.Bounds.{counts-below}
 use Rattle.circuit.proofs.Count.{all-counted}
-use Rattle.circuit.proofs.Every.{every-map, every-append}
-use Rattle.circuit.proofs.ProductTree.{multiply-length}
+use Rattle.circuit.proofs.Every.{every-map}
+use Rattle.circuit.proofs.Sums.{largest-covers, largest-within}
 use Rattle.comparison.specs.Condition.{Condition}
-use Rattle.comparison.specs.Tests.{baseTests}
-use Rattle.comparison.specs.Writing.{conditionSegment}
-use Rattle.comparison.proofs.Condition.{condition-depth}
 use Rattle.query.specs.Card.{Card}
+use Rattle.query.specs.Formulas.{endSize}
 use Rattle.query.specs.Outcomes.{tableRoom, building, forecasting}
+use Rattle.query.specs.Promises.{ended}
 use Rattle.query.specs.Reading.{readCard}
-use Rattle.query.specs.Whole.{Draft, begin, add, addAll, filled, tableOf}
+use Rattle.query.specs.Whole.{Draft, endBy, filled, tableOf}
 use Rattle.query.proofs.Building.{built}
 use Rattle.query.proofs.CardFacts.{Accepted, accepted-card}
-use Rattle.query.proofs.Promises.{exact-size, card-output}
+use Rattle.query.proofs.Promises.{output-levels, end-has, exact-size, card-output}
 use Rattle.query.proofs.Reading.{reads}
-use Rattle.query.proofs.Whole.{all-outputs}
 use Rattle.card.specs.declared.CardHead.{CardHead}
 use Rattle.card.specs.Conditions.{ReadAs, conditionsOf}
 use Rattle.card.specs.Parts.{Summary, summary, headIs, readSummary}
 use Rattle.card.proofs.ReadAs.{Known, known-as}
 use Rattle.writer.specs.declared.Pen.{Pen}
-use Rattle.tree.specs.Factors.{Shallow, nodes}
+use Rattle.tree.specs.Factors.{Shallow}
 use Rattle.writer.specs.Pen.{fresh, Wrote}
 use Rattle.writer.proofs.Writing.{same-gates, then, whole}
 use Rattle.builder.specs.Buildable.{Buildable, reportIs}
@@ -70,55 +67,43 @@ module _ (bytes : List ℕ) (card : Card) (e : readCard bytes ≡ accepted card)
   abbrev draft : Draft
   draft = drafted p cs
 
-  -- room for the conditions' gates and the product tree's
-  pub sizes : (length (draft .gates) + (length cs - 1) ≡ length (tableOf card .gates)) × (length (tableOf card .gates) ≤ mostGates)
+  -- room for the conditions' gates and those after them
+  pub sizes : (length (draft .gates) + endSize (card .form) (length cs) ≡ length (tableOf card .gates))
+      × (length (tableOf card .gates) ≤ mostGates)
   sizes =
-      let next = length (draft .gates) in
-      let count : length (draft .outputs) ≡ length cs = all-outputs (baseTests p) p begin cs ∙ zero-add _ in
-      let tree : length (productTree next (draft .outputs) .gates) ≡ length cs - 1 = multiply-length _ next (draft .outputs) ∙ ap (λ (n : ℕ). n - 1) count in
-      (omega (arith, length-append (draft .gates) (productTree next (draft .outputs) .gates), tree), exact-size bytes card e .1)
+      (omega (arith, length-append (draft .gates) (ended card .gates), end-has bytes card e .0), exact-size bytes card e .1)
 
   -- ---- the outputs
 
-  abbrev Flat : segment.Node → Type 0
-  Flat f = f .depth ≤ mostLevels
-
-  -- a condition has 1 to 16 digits
-  abbrev Counted : Condition → Type 0
-  Counted c = (1 ≤ c .digits) × (c .digits ≤ mostDigits)
-
-  -- so it is no deeper than that
-  few-levels : (earlier : Draft) (ds : List Condition) → Every Flat (earlier .outputs) → Every Counted ds
-      → Every Flat (addAll (baseTests p) p earlier ds .outputs)
-  unfolding addAll
-  few-levels earlier [] flat h = flat
-  few-levels earlier (d ∷ ds) flat h =
-      let k = length (earlier .gates) in
-      let own = condition-depth p k d (omega (arith, known .prime .low)) (h .0 .0) in
-      let top : clog (p - 1) ≤ 8 = clog-is-ceiling (p - 1) 8 .0 (omega (arith, known .prime .high)) in
-      let wide : clog (d .digits) ≤ 8 = clog-is-ceiling (d .digits) 8 .0 (omega (arith, h .0)) in
-      few-levels (add (baseTests p) p earlier d) ds
-      (every-append Flat (earlier .outputs) (conditionSegment p d k .output ∷ []) flat (omega (arith, own, top, wide), tt)) (h .1)
-
+  -- none is deeper than any condition
   pub shallow : Shallow (length cs) (draft .outputs)
   shallow =
-      every-map (λ (f : segment.Node) h. omega (arith, h, known .count .1)) (draft .outputs)
-      (few-levels begin cs tt (every-map (λ (c : Condition) h. (h .0, omega (arith, h, known .sides))) cs (known .each)))
+      let level : segment.Node → ℕ = λ f. f .depth in
+      let top : clog (p - 1) ≤ 8 = clog-is-ceiling (p - 1) 8 .0 (omega (arith, known .prime .high)) in
+      let wide : Every (λ (c : Condition). clog (p - 1) + clog (c .digits) ≤ mostLevels) cs
+      = every-map (λ (c : Condition) h. omega (arith, top, clog-is-ceiling (c .digits) 8 .0 (omega (arith, h, known .sides)))) cs (known .each) in
+      let deepest : largest (map level (draft .outputs)) ≤ mostLevels = rw (output-levels bytes card e) (largest-within _ mostLevels cs wide) in
+      every-map (λ (f : segment.Node) l. omega (arith, l, deepest, known .count .1)) (draft .outputs) (largest-covers level (draft .outputs))
 
   -- ---- what Build answers and leaves
 
+  -- what ends the table, from gate number k on
+  abbrev endAt : ℕ → segment.Segment
+  endAt k = endBy (card .form) p cs k (draft .outputs)
+
   module _ (lent table₂ table₃ : List ℕ) (pen pen₃ : Pen) (deep : ℕ) (room : tableRoom (tableOf card) ≤ length lent)
       (conditions : Wrote (sets lent 0 (headBytes (tableOf card .head) (length (tableOf card .gates)))) fresh (draft .gates) table₂ pen)
-      (tree : Wrote table₂ pen (productTree (pen .next) (draft .outputs) .gates) table₃ pen₃)
-      (output : deep ≡ productTree (pen .next) (draft .outputs) .output .depth) where
+      (end : Wrote table₂ pen (endAt (pen .next) .gates) table₃ pen₃)
+      (output : deep ≡ endAt (pen .next) .output .depth) where
     next-is : pen .next ≡ length (draft .gates)
     next-is = conditions .number ∙ omega arith
 
     wrote : Wrote (sets lent 0 (headBytes (tableOf card .head) (length (tableOf card .gates)))) fresh (tableOf card .gates) table₃ pen₃
-    wrote = then conditions (same-gates (ap (λ (k : ℕ). productTree k (draft .outputs) .gates) next-is) tree)
+    wrote = then conditions (same-gates (ap (λ (k : ℕ). endAt k .gates) next-is) end)
 
     deep-is : deep ≡ depth (tableOf card .gates)
-    deep-is = output ∙ ap (λ (k : ℕ). productTree k (draft .outputs) .output .depth) next-is ∙ card-output bytes card e .1
+    deep-is =
+        output ∙ ap (λ (k : ℕ). endAt k .output .depth) next-is ∙ card-output bytes card e .1
 
     reported : reportIs pen₃ deep (card .weight) ≡ report (tableOf card)
     reported =
@@ -130,11 +115,6 @@ module _ (bytes : List ℕ) (card : Card) (e : readCard bytes ≡ accepted card)
 
     pub leaves : table₃ ≡ building bytes lent .lent
     leaves = rw (built bytes lent card e room) (wrote .bytes ∙ whole (tableOf card) lent room)
-
--- outputs listed in two lists, by an equal count
-pub as-listed : {m n : ℕ} (gates depths : List ℕ) {outputs : List segment.Node} → m ≡ n → nodes (take n gates) (take n depths) ≡ outputs
-    → nodes (take m gates) (take m depths) ≡ outputs
-as-listed gates depths same are = ap (λ (k : ℕ). nodes (take k gates) (take k depths)) same ∙ are
 
 -- ---- the same in the terms of the code, which holds what the card says and the gate count
 
@@ -152,16 +132,20 @@ module _ {bytes lent : List ℕ} {said : Summary} {count : ℕ} (b : Buildable b
   is-filled : draftSaid ≡ filled (b .card)
   is-filled = rw (b .says, b .reads)
 
-  -- room for the conditions, and for the product tree after them
-  pub room-said : (8 * (length (draftSaid .gates) + (said .count - 1) + 1) ≤ length lent)
-      × (length (draftSaid .gates) + (said .count - 1) ≤ mostGates)
+  -- room for the conditions, and for what comes after them
+  pub room-said : (8 * (length (draftSaid .gates) + endSize (said .form) (said .count) + 1) ≤ length lent)
+      × (length (draftSaid .gates) + endSize (said .form) (said .count) ≤ mostGates)
   room-said =
       let s = sizes bytes (b .card) (b .reads) in
       let same = ap (λ (d : Draft). length (d .gates)) is-filled in
-      let conditions = ap (λ (t : Summary). t .count) (b .says) in
-      (omega (arith, s, same, conditions, b .room), omega (arith, s, same, conditions))
+      let end = ap (λ (t : Summary). endSize (t .form) (t .count)) (b .says) in
+      (omega (arith, s, same, end, b .room), omega (arith, s, same, end))
 
-  -- ---- the outputs, and the product tree over them
+  -- ---- the outputs, and what ends the table over them
+
+  -- by what the card says, over any outputs
+  abbrev endSaid : ℕ → List segment.Node → segment.Segment
+  endSaid k outputs = endBy (said .form) (said .prime) (conditionsOf bytes) k outputs
 
   module _ {factors : List segment.Node} (are : factors ≡ draftSaid .outputs) where
     factors-are : factors ≡ filled (b .card) .outputs
@@ -172,17 +156,24 @@ module _ {bytes lent : List ℕ} {said : Summary} {count : ℕ} (b : Buildable b
 
     module _ {table₁ table₂ table₃ : List ℕ} {pen pen₃ : Pen} {deep : ℕ} (head : table₁ ≡ sets lent 0 (headBytes headOf count))
         (conditions : Wrote table₁ fresh (draftSaid .gates) table₂ pen)
-        (tree : Wrote table₂ pen (productTree (pen .next) factors .gates) table₃ pen₃)
-        (output : deep ≡ productTree (pen .next) factors .output .depth) where
+        (end : Wrote table₂ pen (endSaid (pen .next) factors .gates) table₃ pen₃)
+        (output : deep ≡ endSaid (pen .next) factors .output .depth) where
       first : Wrote (sets lent 0 (headBytes (tableOf (b .card) .head) (length (tableOf (b .card) .gates)))) fresh
           (filled (b .card) .gates) table₂ pen
       first = rw (head, b .says, b .gates) at (same-gates (ap (λ (d : Draft). d .gates) is-filled) conditions)
 
-      second : Wrote table₂ pen (productTree (pen .next) (filled (b .card) .outputs) .gates) table₃ pen₃
-      second = same-gates (ap (λ (fs : List segment.Node). productTree (pen .next) fs .gates) factors-are) tree
+      -- the same of the card that was read
+      abbrev endRead : segment.Segment
+      endRead = endAt bytes (b .card) (b .reads) (pen .next)
 
-      third : deep ≡ productTree (pen .next) (filled (b .card) .outputs) .output .depth
-      third = output ∙ ap (λ (fs : List segment.Node). productTree (pen .next) fs .output .depth) factors-are
+      end-is : endSaid (pen .next) factors ≡ endRead
+      end-is = rw (factors-are, b .says, b .reads)
+
+      second : Wrote table₂ pen (endRead .gates) table₃ pen₃
+      second = same-gates (ap (λ (s : segment.Segment). s .gates) end-is) end
+
+      third : deep ≡ endRead .output .depth
+      third = output ∙ ap (λ (s : segment.Segment). s .output .depth) end-is
 
       pub answers-said : accepted (reportIs pen₃ deep (said .weight)) ≡ building bytes lent .answer
       answers-said = rw (b .says) (answers bytes (b .card) (b .reads) lent table₂ table₃ pen pen₃ deep (b .room) first second third)

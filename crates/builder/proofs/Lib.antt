@@ -2,4 +2,5 @@
 pub mod Prime
 pub mod Orders
 pub mod Adding
+pub mod Scoring
 pub mod Building

@@ -5,26 +5,32 @@ use answer::Report;
 use answer::Reported;
 use card::CardHead;
 use card::CardRead;
+use card::Form;
 use condition::put_condition;
+use writer::Node;
 use writer::Pen;
 use writer::Slots;
 use writer::Written;
 ghost use mathlib.Core.Path.{_≡_};
 ghost use Prim.Native.Nat.{_+_, _≤_};
-ghost use lib.ListN.{length, take};
+ghost use lib.ListN.{length};
 ghost use Rattle.answer.specs.Outcome.{accepted};
 ghost use Rattle.answer.specs.Report.{reportAnswer};
 ghost use Rattle.answer.specs.declared.Reported.the-variants.{Success};
 ghost use Rattle.circuit.specs.Table.{mostGates};
 ghost use Rattle.constants.specs.Constants.{mostConstants};
 ghost use Rattle.powers.specs.Powers.{mostPowers};
-ghost use Rattle.tree.specs.Factors.{nodes};
+ghost use Rattle.tree.specs.Factors.{Shallow};
+ghost use Rattle.writer.specs.Nodes.{nodeIs};
 ghost use Rattle.writer.specs.Pen.{fresh, Wrote, Moved};
+ghost use Rattle.query.specs.Form.{Scored};
+ghost use Rattle.query.specs.Formulas.{endSize};
 ghost use Rattle.query.specs.Outcomes.{building};
 ghost use Rattle.card.specs.Conditions.{ReadAs, conditionsOf};
-ghost use Rattle.card.specs.Parts.{headIs};
+ghost use Rattle.card.specs.Parts.{formIs, headIs};
 ghost use Rattle.builder.specs.Buildable.{Buildable, Workspace, reportIs};
 ghost use Rattle.builder.specs.Conditions.{drafted, anyOrder, Ready, Writable};
+ghost use Rattle.builder.specs.Ending.{outputsOf, endFrom, Endable};
 
 // The conditions in order; their outputs go into gates and depths.
 fn put_conditions(
@@ -39,7 +45,7 @@ fn put_conditions(
     requires { ⌜ Writable (now card) head (now table) (now constants) (now powers) (now gates) (now depths) ⌝ }
     ensures wrote { λ r. ⌜ Wrote (now (table .entry)) fresh (drafted (head .prime) (conditionsOf (now (card .entry))) .gates) (now (table .exit)) r ⌝ }
     ensures moves { λ r. ⌜ Moved fresh (length (drafted (head .prime) (conditionsOf (now (card .entry))) .gates)) r ⌝ }
-    ensures outputs { λ r. ⌜ nodes (take (head .count) (now (gates .exit))) (take (head .count) (now (depths .exit))) ≡ drafted (head .prime) (conditionsOf (now (card .entry))) .outputs ⌝ }
+    ensures outputs { λ r. ⌜ outputsOf head (now (gates .exit)) (now (depths .exit)) ≡ drafted (head .prime) (conditionsOf (now (card .entry))) .outputs ⌝ }
 {
     let p = head.prime as u16;
     let count = arithmetic::wide(head.count);
@@ -95,6 +101,63 @@ fn prepare_order(card: &[u8], head: CardHead, constants: &mut [u8], powers: &mut
     }
 }
 
+// The sum of the conditions' outputs, each scaled by the weight of its condition.
+fn put_score(
+    card: &[u8],
+    head: CardHead,
+    table: &mut [u8],
+    pen: Pen,
+    gates: &[u16],
+    depths: &[u16],
+) -> Written
+    requires { ⌜ Endable (now card) head (endSize Scored (head .count)) (now table) pen (now gates) (now depths) ⌝ }
+    ensures wrote { λ r. ⌜ Wrote (now (table .entry)) pen (endFrom Scored (now (card .entry)) head pen (now (gates .entry)) (now (depths .entry)) .gates) (now (table .exit)) (r .pen) ⌝ }
+    ensures output { λ r. ⌜ nodeIs (r .node) ≡ endFrom Scored (now (card .entry)) head pen (now (gates .entry)) (now (depths .entry)) .output ⌝ }
+{
+    let mut sum = Written {
+        pen: writer::put_term(table, pen, gates[0], card::weight_of(card, head, 0)),
+        node: Node {
+            gate: pen.next,
+            depth: depths[0],
+        },
+    };
+    let count = arithmetic::wide(head.count);
+    let mut k = 1;
+    while k < count {
+        let weight = card::weight_of(card, head, k);
+        let output = Node {
+            gate: gates[k],
+            depth: depths[k],
+        };
+        sum = writer::add_term(table, sum.pen, sum.node, output, weight);
+        k += 1;
+    }
+    sum
+}
+
+// What ends the table of a card: the product tree over the conditions' outputs, which uses them up, or their score.
+fn put_end(
+    card: &[u8],
+    head: CardHead,
+    table: &mut [u8],
+    pen: Pen,
+    gates: &mut [u16],
+    depths: &mut [u16],
+) -> Written
+    requires { ⌜ Endable (now card) head (endSize (formIs (head .form)) (head .count)) (now table) pen (now gates) (now depths) ⌝ }
+    requires { ⌜ Shallow (head .count) (outputsOf head (now gates) (now depths)) ⌝ }
+    ensures wrote { λ r. ⌜ Wrote (now (table .entry)) pen (endFrom (formIs (head .form)) (now (card .entry)) head pen (now (gates .entry)) (now (depths .entry)) .gates) (now (table .exit)) (r .pen) ⌝ }
+    ensures output { λ r. ⌜ nodeIs (r .node) ≡ endFrom (formIs (head .form)) (now (card .entry)) head pen (now (gates .entry)) (now (depths .entry)) .output ⌝ }
+{
+    let form = head.form;
+    match form {
+        Form::Plain => {
+            tree::put_product_tree(table, pen, gates, depths, arithmetic::wide(head.count))
+        }
+        Form::Scored => put_score(card, head, table, pen, gates, depths),
+    }
+}
+
 // The report on gates that were counted while they were written; the last is the output.
 fn report_of(written: Written, weight: u8) -> Report
     requires { ⌜ written .pen .products + written .pen .squares ≤ mostGates ⌝ }
@@ -129,9 +192,8 @@ fn write_table(
     prepare_order(card, head, constants, powers);
     writer::put_head(table, head.prime, head.weight, head.slots, count);
     let pen = put_conditions(card, head, table, constants, powers, gates, depths);
-    let outputs = arithmetic::wide(head.count);
-    let tree = tree::put_product_tree(table, pen, gates, depths, outputs);
-    report_of(tree, head.weight)
+    let end = put_end(card, head, table, pen, gates, depths);
+    report_of(end, head.weight)
 }
 
 // The table of a card that was read, or 11.

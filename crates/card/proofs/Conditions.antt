@@ -1,7 +1,7 @@
 -- The condition records as the loop that reads them meets them: the bytes from one record on, and what reading the first of them
 -- says of reading all.
 -- Assumes nothing.
-use mathlib.Core.Path.{_≡_, refl, sym, ap, _∙_}
+use mathlib.Core.Path.{_≡_, refl, sym, ap, ap₂, _∙_}
 use mathlib.Core.List.{List, _∷_}
 use Prim.Native.Nat.{ℕ, suc, _+_, _-_, _*_, _≤_, _<_, zero-le}
 use native.Mathlib.Omega.{arith}
@@ -15,11 +15,12 @@ use Rattle.field.proofs.Tests.{in-range}
 use Rattle.digits.specs.Number.{mostDigits}
 use Rattle.circuit.proofs.Records.{lentFrom, lent-all, one-less}
 use Rattle.comparison.specs.Condition.{Condition}
-use Rattle.query.specs.Card.{slotsOf}
+use Rattle.query.specs.Card.{slotsOf, totalWeight}
 use Rattle.query.specs.Form.{Form, recordSize}
 use Rattle.query.specs.Reading.{readCondition, readConditions}
 use Rattle.query.proofs.Reading.{says}
-use Rattle.card.specs.Parts.{readSlotCount}
+use Rattle.card.specs.declared.Sums.{Sums}
+use Rattle.card.specs.Parts.{readSums}
 
 -- a record that is one of count ends within them
 pub record-within : (size count k : ℕ) → k < count → size * k + size ≤ size * count
@@ -51,48 +52,53 @@ module _ (form : Form) (p : ℕ) where
   unfolding readConditions
   first-read slot count bytes c e = rw e
 
-  -- ---- adding up the digits
+  -- ---- adding up the digits and the weights
 
-  -- what was added up so far, and the digits of the conditions that are left
-  abbrev adding : ℕ → Answer (List Condition) → Answer ℕ
-  adding slots read = onAnswer read refused (λ cs. accepted (slots + slotsOf cs))
+  -- so many digits and so much weight
+  abbrev both : ℕ → ℕ → Answer Sums
+  both slots weights = accepted (record { slots = slots; weights = weights })
 
-  one-more : (slots : ℕ) (c : Condition) (read : Answer (List Condition))
-      → adding slots (onAnswer read refused (λ cs. accepted (c ∷ cs))) ≡ adding (slots + c .digits) read
+  -- what was added up so far, and that of the conditions that are left
+  abbrev adding : ℕ → ℕ → Answer (List Condition) → Answer Sums
+  adding slots weights read = onAnswer read refused (λ cs. both (slots + slotsOf cs) (weights + totalWeight cs))
+
+  one-more : (slots weights : ℕ) (c : Condition) (read : Answer (List Condition))
+      → adding slots weights (onAnswer read refused (λ cs. accepted (c ∷ cs))) ≡ adding (slots + c .digits) (weights + c .weight) read
   unfolding total
-  one-more slots c (refused number) = refl
-  one-more slots c (accepted cs) = ap accepted (omega arith)
+  one-more slots weights c (refused number) = refl
+  one-more slots weights c (accepted cs) = ap₂ both (omega arith) (omega arith)
 
   -- what is known between two turns: k records of count are read
-  pub record Sums (records : List ℕ) (count k slots : ℕ) (whole : Answer ℕ) : Type 0 where
+  pub record AddsUp (records : List ℕ) (count k slots weights : ℕ) (whole : Answer Sums) : Type 0 where
     pub most : k ≤ count
-    pub few : slots ≤ mostDigits * k
-    pub goes : adding slots (readConditions form p slots (count - k) (recordAt records k)) ≡ whole
+    pub few : (slots ≤ mostDigits * k) × (weights ≤ 255 * k)
+    pub goes : adding slots weights (readConditions form p slots (count - k) (recordAt records k)) ≡ whole
 
-  pub starts : (records : List ℕ) (count : ℕ) → Sums records count 0 0 (readSlotCount form p count records)
+  pub starts : (records : List ℕ) (count : ℕ) → AddsUp records count 0 0 0 (readSums form p count records)
   starts records count =
       let none : recordSize form * 0 ≡ 0 = omega arith in
       record {
         most = zero-le;
         few = omega arith;
         goes = rw (sub-zero, none)
-            (onAnswer-same (readConditions form p 0 count records) refused (λ cs. ap accepted (zero-add (slotsOf cs))));
+            (onAnswer-same (readConditions form p 0 count records) refused
+            (λ cs. ap₂ both (zero-add (slotsOf cs)) (zero-add (totalWeight cs))));
       }
 
-  pub finishes : (records : List ℕ) (count k slots : ℕ) (whole : Answer ℕ) → count ≤ k → Sums records count k slots whole
-      → accepted slots ≡ whole
+  pub finishes : (records : List ℕ) (count k slots weights : ℕ) (whole : Answer Sums) → count ≤ k
+      → AddsUp records count k slots weights whole → both slots weights ≡ whole
   unfolding readConditions total
-  finishes records count k slots whole h s =
-      let none : count - k ≡ 0 = omega arith in ap accepted (sym (add-zero slots)) ∙ rw none at (s .goes)
+  finishes records count k slots weights whole h s =
+      let none : count - k ≡ 0 = omega arith in ap₂ both (sym (add-zero slots)) (sym (add-zero weights)) ∙ rw none at (s .goes)
 
-  module _ (records : List ℕ) (size count k slots : ℕ) (whole : Answer ℕ) (is : size ≡ recordSize form) (l : k < count)
-      (s : Sums records count k slots whole) where
+  module _ (records : List ℕ) (size count k slots weights : ℕ) (whole : Answer Sums) (is : size ≡ recordSize form) (l : k < count)
+      (s : AddsUp records count k slots weights whole) where
     -- the bytes as the code lends them
     lent-is : lentFrom records (size * k) ≡ recordAt records k
     lent-is = lent-all records (size * k) ∙ ap (λ (n : ℕ). drop (n * k) records) is
 
     -- what is left, from this record on
-    going : adding slots (readConditions form p slots (suc (count - (k + 1))) (recordAt records k)) ≡ whole
+    going : adding slots weights (readConditions form p slots (suc (count - (k + 1))) (recordAt records k)) ≡ whole
     going = rw (one-less count k l) at (s .goes)
 
     pub refuses : (number : ℕ) → refused number ≡ readCondition form p slots (lentFrom records (size * k)) → refused number ≡ whole
@@ -100,14 +106,15 @@ module _ (form : Form) (p : ℕ) where
         let first = ap (readCondition form p slots) (sym lent-is) ∙ sym e in
         rw (first-refused slots (count - (k + 1)) number (recordAt records k) first) at going
 
-    pub adds : (c : Condition) → accepted c ≡ readCondition form p slots (lentFrom records (size * k))
-        → Sums records count (k + 1) (slots + c .digits) whole
-    adds c e =
+    -- a weight is a byte
+    pub adds : (c : Condition) → accepted c ≡ readCondition form p slots (lentFrom records (size * k)) → c .weight ≤ 255
+        → AddsUp records count (k + 1) (slots + c .digits) (weights + c .weight) whole
+    adds c e byte =
         let first = ap (readCondition form p slots) (sym lent-is) ∙ sym e in
         let others = readConditions form p (slots + c .digits) (count - (k + 1)) (drop (recordSize form) (recordAt records k)) in
         record {
           most = omega arith;
-          few = omega (arith, s .few, in-range (c .digits) 1 mostDigits (says form p slots (recordAt records k) c first .count) .1);
+          few = omega (arith, s .few, byte, in-range (c .digits) 1 mostDigits (says form p slots (recordAt records k) c first .count) .1);
           goes = rw (next-record records k)
-              (sym (one-more slots c others) ∙ rw (first-read slots (count - (k + 1)) (recordAt records k) c first) at going);
+              (sym (one-more slots weights c others) ∙ rw (first-read slots (count - (k + 1)) (recordAt records k) c first) at going);
         }

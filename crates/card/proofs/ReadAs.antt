@@ -2,31 +2,38 @@
 -- that number.
 -- Assumes nothing.
 use mathlib.Core.Path.{_≡_, refl, sym, ap, ap₂, subst, _∙_}
-use mathlib.Core.List.{List, [], _∷_, _++_, map, map-append}
-use Prim.Native.Nat.{ℕ, _+_, _*_, _≤_, _<_}
+use mathlib.Core.List.{List, [], _∷_, _++_}
+use Prim.Native.Nat.{ℕ, zero, suc, _+_, _*_, _≤_, _<_}
 use native.Mathlib.Omega.{arith}
 use native.Mathlib.Nat.{zero-add}
-use lib.ListN.{length, take, drop, take-append-drop}
-use lib.Seq.{drop-drop, take-add}
+use borrow.Author.Tests.{eqb-true}
+use lib.ListN.{length, getD, take, drop, take-append-drop, length-drop}
+use lib.Seq.{drop-drop, take-add, getD-drop}
 use Rattle.answer.specs.Outcome.{accepted}
 use Rattle.answer.proofs.Outcome.{answered, accepted-same}
 use Rattle.field.specs.Sum.{total}
-use Rattle.field.proofs.Sum.{total-append}
+use Rattle.field.proofs.Tests.{both}
 use Rattle.digits.specs.Number.{mostDigits}
 use Rattle.circuit.specs.Bytes.{byte}
 use Rattle.circuit.specs.Every.{Every}
 use Rattle.circuit.proofs.Every.{every-map, every-drop}
 use Rattle.circuit.proofs.Records.{lentFrom, lent-all}
 use Rattle.comparison.specs.Condition.{Condition, HasSlots}
+use Rattle.comparison.specs.Relation.{Relation, relationNumber}
+use Rattle.comparison.proofs.Relations.{same-relation}
 use Rattle.query.specs.Card.{Card, mostConditions, slotsOf}
-use Rattle.query.specs.Form.{headSize, recordSize}
+use Rattle.query.specs.Form.{headSize, Form, Plain, Scored, recordSize, takesNext}
 use Rattle.query.specs.Reading.{readCondition, readCard}
+use Rattle.query.specs.Score.{weightsOf}
 use Rattle.query.proofs.CardFacts.{accepted-card}
-use Rattle.query.proofs.Reading.{condition-at, reads}
+use Rattle.query.proofs.Form.{tail-left, tail-right, Tail}
+use Rattle.query.proofs.OverConditions.{over-append}
+use Rattle.query.proofs.Reading.{Says, says, condition-at, reads}
+use Rattle.relations.specs.Relations.{relationIs}
 use Rattle.card.specs.declared.CardHead.{CardHead}
 use Rattle.card.specs.declared.Record.{Record}
-use Rattle.card.specs.Parts.{formIs, recordIs, Summary, summary, headIs}
-use Rattle.card.specs.Conditions.{ReadAs, conditionsOf, Taken, IsRecord}
+use Rattle.card.specs.Parts.{formIs, recordIs, weightIn, Summary, summary, headIs}
+use Rattle.card.specs.Conditions.{ReadAs, conditionsOf, Taken, IsRecord, IsWeight}
 use Rattle.card.proofs.Conditions.{record-within}
 
 -- what is known of a card that was read
@@ -79,23 +86,18 @@ pub slots-next : (cs : List Condition) (k slot : ℕ) (c : Condition) → Taken 
     → Taken cs (k + 1) (slot + c .digits)
 unfolding total
 slots-next cs k slot c so-far is =
-    let digits : Condition → ℕ = λ c. c .digits in
     let longer = take-add k 1 cs ∙ ap (λ (l : List Condition). take k cs ++ take 1 l) is in
-    let added = map-append digits (take k cs) (c ∷ []) in
-    omega (arith, so-far, ap slotsOf longer, ap total added, total-append (map digits (take k cs)) (c .digits ∷ []))
+    omega (arith, so-far, ap slotsOf longer, over-append (λ (c : Condition). c .digits) (take k cs) (c ∷ []))
 
 -- they are never more than a card has
 slots-few : (bytes : List ℕ) (head : CardHead) (k : ℕ) → ReadAs bytes head → slotsOf (take k (conditionsOf bytes)) ≤ mostDigits
 slots-few bytes head k e =
     let read = known-as bytes head e in
-    let digits : Condition → ℕ = λ c. c .digits in
     let cs = conditionsOf bytes in
-    let parts = map-append digits (take k cs) (drop k cs) in
     omega (
       arith,
       ap slotsOf (take-append-drop k cs),
-      ap total parts,
-      total-append (map digits (take k cs)) (map digits (drop k cs)),
+      over-append (λ (c : Condition). c .digits) (take k cs) (drop k cs),
       ap slotsOf (read .conditions),
       accepted-card bytes (read .card) (read .reads) .slots,
     )
@@ -157,3 +159,51 @@ module _ (bytes : List ℕ) (head : CardHead) (k size : ℕ) (e : ReadAs bytes h
   record-read =
       subst (λ (s : Summary). ReadAt bytes k size s (conditionsOf bytes)) (sym (read .says))
       (subst (ReadAt bytes k size (summary (read .card))) (sym (read .conditions)) (of-card bytes (read .card) k size (read .reads) few sized))
+
+-- ---- what a record says, by its bytes
+
+-- its weight, as its form has it
+weight-in : (form : Form) (p slot : ℕ) (r : Relation) (n : ℕ) (bytes : List ℕ) (c : Condition) → recordSize form ≤ length bytes
+    → Tail form p slot r n bytes c → c .weight ≡ weightIn form bytes
+weight-in Plain p slot r n bytes c l t = eqb-true (c .weight) 0 (both (takesNext slot c) _ (t .kept) .1)
+weight-in Scored p slot r n bytes c l t = ap (λ (tail : List ℕ). getD tail 0 0) (sym (t .after l)) ∙ getD-drop 4 bytes 0 0
+
+abbrev conditionWith : Relation → ℕ → ℕ → ℕ → ℕ → Condition
+conditionWith r n l s w = record { relation = r; digits = n; left = l; right = s; weight = w }
+
+module _ (form : Form) (p slot at : ℕ) (bytes : List ℕ) (c : Condition) (l : at + recordSize form ≤ length bytes)
+    (e : readCondition form p slot (lentFrom bytes at) ≡ accepted c) where
+  told : Says form p slot (drop at bytes) c
+  told = says form p slot (drop at bytes) c (ap (readCondition form p slot) (sym (lent-all bytes at)) ∙ e)
+
+  -- the number of its relation
+  pub relation-in : relationNumber (c .relation) ≡ byte bytes (at + 2)
+  relation-in = told .relation ∙ getD-drop at bytes 2 0
+
+  -- its weight, where its form keeps it
+  pub weight-told : c .weight ≡ weightIn form (drop at bytes)
+  weight-told =
+      let long : recordSize form ≤ length (drop at bytes) = rw length-drop (omega arith) in
+      weight-in form p slot _ _ (drop at bytes) c long (told .tail)
+
+  -- so a record with these fields is the condition
+  pub is-condition : (r : Record) → relationNumber (relationIs (r .relation)) ≡ byte bytes (at + 2) → r .digits ≡ byte bytes (at + 3)
+      → r .left ≡ slot → r .right ≡ slot → r .weight ≡ weightIn form (drop at bytes) → recordIs r ≡ c
+  is-condition r number digits left right weight =
+      let relation = same-relation (relationIs (r .relation)) (c .relation) (number ∙ sym relation-in) in
+      let count = digits ∙ sym (told .tail .digits ∙ getD-drop at bytes 3 0) in
+      let heavy = weight ∙ sym weight-told in
+      let kept = told .tail .kept in
+      ap₂ (λ (q : Relation) (n : ℕ). conditionWith q n (r .left) (r .right) (r .weight)) relation count
+      ∙ ap₂ (λ (a b : ℕ). conditionWith (c .relation) (c .digits) a b (r .weight)) (left ∙ sym (tail-left form p slot c kept)) (right ∙ sym (tail-right form p slot c kept))
+      ∙ ap (conditionWith (c .relation) (c .digits) (c .left) (c .right)) heavy
+
+-- the weight of a condition is that of its number
+pub weight-is : (cs : List Condition) (k : ℕ) (c : Condition) (w : ℕ) → drop k cs ≡ c ∷ drop (k + 1) cs → c .weight ≡ w → IsWeight cs k w
+weight-is cs k c w is e =
+    drop-map k cs ∙ ap weightsOf is ∙ ap₂ (λ (v : ℕ) (vs : List ℕ). v ∷ vs) e (sym (drop-map (k + 1) cs))
+  where
+    drop-map : (n : ℕ) (ds : List Condition) → drop n (weightsOf ds) ≡ weightsOf (drop n ds)
+    drop-map zero ds = refl
+    drop-map (suc n) [] = refl
+    drop-map (suc n) (d ∷ ds) = drop-map n ds

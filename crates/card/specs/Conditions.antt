@@ -7,6 +7,7 @@ use Rattle.answer.specs.Outcome.{accepted, onAnswer}
 use Rattle.comparison.specs.Condition.{Condition}
 use Rattle.query.specs.Card.{Card, slotsOf}
 use Rattle.query.specs.Reading.{readCard}
+use Rattle.query.specs.Score.{weightsOf}
 use Rattle.card.specs.declared.Record.{Record}
 use Rattle.card.specs.declared.CardHead.{CardHead}
 use Rattle.card.specs.Parts.{recordIs, headIs, readSummary}
@@ -26,3 +27,7 @@ Taken cs k slot = slot ≡ slotsOf (take k cs)
 -- a record is the condition of number k
 abbrev pub IsRecord : List Condition → ℕ → Record → Type 0
 IsRecord cs k r = drop k cs ≡ recordIs r ∷ drop (k + 1) cs
+
+-- the condition of number k has this weight
+abbrev pub IsWeight : List Condition → ℕ → ℕ → Type 0
+IsWeight cs k weight = drop k (weightsOf cs) ≡ weight ∷ drop (k + 1) (weightsOf cs)

@@ -4,8 +4,9 @@ use mathlib.Core.List.{List}
 use lib.ListN.{length}
 use Rattle.answer.specs.Numbers.{refusalNumber}
 use Rattle.answer.specs.Outcome.{Answer, refused, accepted, onAnswer}
+use Rattle.circuit.specs.Bytes.{byte}
 use Rattle.comparison.specs.Condition.{Condition}
-use Rattle.query.specs.Card.{Card, slotsOf}
+use Rattle.query.specs.Card.{Card, slotsOf, totalWeight}
 use Rattle.query.specs.Form as query
 use Rattle.query.specs.Reading.{readConditions, readFormed, readCard}
 use Rattle.relations.specs.Relations.{relationIs}
@@ -16,8 +17,9 @@ use Rattle.card.specs.declared.FormRead.the-variants as formRead
 use Rattle.card.specs.declared.Record.{Record}
 use Rattle.card.specs.declared.RecordRead.{RecordRead}
 use Rattle.card.specs.declared.RecordRead.the-variants as recordRead
-use Rattle.card.specs.declared.SlotsRead.{SlotsRead}
-use Rattle.card.specs.declared.SlotsRead.the-variants as slotsRead
+use Rattle.card.specs.declared.Sums.{Sums}
+use Rattle.card.specs.declared.SumsRead.{SumsRead}
+use Rattle.card.specs.declared.SumsRead.the-variants as sumsRead
 use Rattle.card.specs.declared.CardHead.{CardHead}
 use Rattle.card.specs.declared.CardRead.{CardRead}
 use Rattle.card.specs.declared.CardRead.the-variants as cardRead
@@ -27,6 +29,7 @@ use Rattle.card.specs.declared.CardRead.the-variants as cardRead
 -- the form of the same name
 abbrev pub formIs : Form → query.Form
 formIs form.Plain = query.Plain
+formIs form.Scored = query.Scored
 
 -- the refusal's number, or the form, for each case of the enum
 abbrev pub formAnswer : FormRead → Answer query.Form
@@ -37,21 +40,31 @@ formAnswer (formRead.Refused why) = refused (refusalNumber why)
 
 -- the condition that the code's struct stands for
 abbrev pub recordIs : Record → Condition
-recordIs r = record { relation = relationIs (r .relation); digits = r .digits; left = r .left; right = r .right }
+recordIs r =
+    record { relation = relationIs (r .relation); digits = r .digits; left = r .left; right = r .right; weight = r .weight }
 
 -- the refusal's number, or the condition, for each case of the enum
 abbrev pub recordAnswer : RecordRead → Answer Condition
 recordAnswer (recordRead.Read r) = accepted (recordIs r)
 recordAnswer (recordRead.Refused why) = refused (refusalNumber why)
 
--- the digits of the next records together, or the first rule broken
-abbrev pub readSlotCount : query.Form → ℕ → ℕ → List ℕ → Answer ℕ
-readSlotCount form p count bytes = onAnswer (readConditions form p 0 count bytes) refused (λ cs. accepted (slotsOf cs))
+-- the weight in the record that the bytes begin with, or 0 where its form has none
+abbrev pub weightIn : query.Form → List ℕ → ℕ
+weightIn query.Plain bytes = 0
+weightIn query.Scored bytes = byte bytes 4
 
--- the refusal's number, or the digits together, for each case of the enum
-abbrev pub slotsAnswer : SlotsRead → Answer ℕ
-slotsAnswer (slotsRead.Read slots) = accepted slots
-slotsAnswer (slotsRead.Refused why) = refused (refusalNumber why)
+-- the digits and weights of conditions together
+abbrev pub sumsOf : List Condition → Sums
+sumsOf cs = record { slots = slotsOf cs; weights = totalWeight cs }
+
+-- those of the next records, or the first rule broken
+abbrev pub readSums : query.Form → ℕ → ℕ → List ℕ → Answer Sums
+readSums form p count bytes = onAnswer (readConditions form p 0 count bytes) refused (λ cs. accepted (sumsOf cs))
+
+-- the refusal's number, or the digits and weights together, for each case of the enum
+abbrev pub sumsAnswer : SumsRead → Answer Sums
+sumsAnswer (sumsRead.Read sums) = accepted sums
+sumsAnswer (sumsRead.Refused why) = refused (refusalNumber why)
 
 -- ---- cards
 

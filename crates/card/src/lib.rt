@@ -4,15 +4,16 @@ use records::LEAST_WEIGHT;
 use records::MOST_WEIGHT;
 use relations::Relation;
 ghost use mathlib.Core.Path.{_≡_};
-ghost use Prim.Native.Nat.{_*_, _≤_, _<_};
-ghost use lib.ListN.{length};
+ghost use Prim.Native.Nat.{_+_, _*_, _≤_, _<_};
+ghost use lib.ListN.{length, drop};
 ghost use Rattle.circuit.specs.Bytes.{wrongMark};
-ghost use Rattle.query.specs.Card.{mostConditions};
-ghost use Rattle.query.specs.Form.{headSize, recordMarkOf, recordSize, formOf};
-ghost use Rattle.query.specs.Reading.{readCounted, readCondition, withinSlots};
+ghost use Rattle.comparison.specs.Relation.{relationNumber};
+ghost use Rattle.query.specs.Card.{mostConditions, wrongTotal};
+ghost use Rattle.query.specs.Form.{headSize, Scored, recordMarkOf, recordSize, formOf, readTail};
+ghost use Rattle.query.specs.Reading.{readCounted, readCondition, withinLimits};
 ghost use Rattle.relations.specs.Relations.{relationIs};
-ghost use Rattle.card.specs.Parts.{formIs, formAnswer, recordAnswer, slotsAnswer, readSlotCount, headIs, cardAnswer, readSummary, readFormedSummary};
-ghost use Rattle.card.specs.Conditions.{ReadAs, conditionsOf, Taken, IsRecord};
+ghost use Rattle.card.specs.Parts.{formIs, formAnswer, recordAnswer, weightIn, sumsAnswer, readSums, headIs, cardAnswer, readSummary, readFormedSummary};
+ghost use Rattle.card.specs.Conditions.{ReadAs, conditionsOf, Taken, IsRecord, IsWeight};
 
 // For each form the marks of a head and of a record, and the bytes of a record.
 const PLAIN_HEAD: [u8; 2] = [0xC5, 0x48];
@@ -21,11 +22,20 @@ const PLAIN_RECORD: [u8; 2] = [0xC5, 0x51];
 
 const PLAIN_SIZE: usize = 4;
 
+const SCORE_HEAD: [u8; 2] = [0xC5, 0x53];
+
+const SCORE_RECORD: [u8; 2] = [0xC5, 0x57];
+
+const SCORE_SIZE: usize = 6;
+
 // The bytes of a head.
 pub const HEAD: usize = 6;
 
 // The bytes of the longest record.
-pub const MOST_RECORD: usize = PLAIN_SIZE;
+pub const MOST_RECORD: usize = SCORE_SIZE;
+
+// The number of the last relation.
+const MOST_RELATION: usize = 6;
 
 // The most conditions of a card.
 pub const MOST_CONDITIONS: usize = 8;
@@ -33,6 +43,7 @@ pub const MOST_CONDITIONS: usize = 8;
 // The form of a card, which the mark of its head tells.
 pub enum Form {
     Plain,
+    Scored,
 }
 
 // The form of a card, or why its mark is refused.
@@ -41,12 +52,13 @@ enum FormRead {
     Refused(Refusal),
 }
 
-// The condition of a record: the relation, the digit count, and the first slot on each side.
+// The condition of a record: the relation, the digit count, the first slot on each side, and the weight in a score.
 pub struct Record {
     pub relation: Relation,
     pub digits: u8,
     pub left: u8,
     pub right: u8,
+    pub weight: u8,
 }
 
 // The condition of a record, or why the record is refused.
@@ -55,9 +67,15 @@ enum RecordRead {
     Refused(Refusal),
 }
 
-// The digits of all conditions together, or why a record is refused.
-enum SlotsRead {
-    Read(u8),
+// The digits of all conditions together, and their weights.
+struct Sums {
+    slots: u8,
+    weights: u16,
+}
+
+// The digits and weights of all conditions together, or why a record is refused.
+enum SumsRead {
+    Read(Sums),
     Refused(Refusal),
 }
 
@@ -81,10 +99,13 @@ fn form_of(card: &[u8]) -> FormRead
     requires { ⌜ 2 ≤ length (now card) ⌝ }
     ensures { λ r. ⌜ formAnswer r ≡ formOf (now (card .entry)) ⌝ }
 {
-    if records::lacks_mark(card, PLAIN_HEAD) {
-        return FormRead::Refused(Refusal::WrongMark);
+    if !records::lacks_mark(card, PLAIN_HEAD) {
+        return FormRead::Read(Form::Plain);
     }
-    FormRead::Read(Form::Plain)
+    if !records::lacks_mark(card, SCORE_HEAD) {
+        return FormRead::Read(Form::Scored);
+    }
+    FormRead::Refused(Refusal::WrongMark)
 }
 
 // The bytes of a record.
@@ -93,6 +114,7 @@ fn record_size(form: Form) -> usize
 {
     match form {
         Form::Plain => PLAIN_SIZE,
+        Form::Scored => SCORE_SIZE,
     }
 }
 
@@ -103,7 +125,45 @@ fn lacks_record_mark(bytes: &[u8], form: Form) -> bool
 {
     match form {
         Form::Plain => records::lacks_mark(bytes, PLAIN_RECORD),
+        Form::Scored => records::lacks_mark(bytes, SCORE_RECORD),
     }
+}
+
+// The relation of a number from 1 to 6.
+fn relation_of(number: u8) -> Relation
+    requires { ⌜ (1 ≤ number) × (number ≤ 6) ⌝ }
+    ensures { λ r. ⌜ relationNumber (relationIs r) ≡ number ⌝ }
+{
+    match number {
+        1 => Relation::Less,
+        2 => Relation::AtMost,
+        3 => Relation::Greater,
+        4 => Relation::AtLeast,
+        5 => Relation::Equal,
+        _ => Relation::NotEqual,
+    }
+}
+
+// A record of a score card whose relation and digit count are known, or 25, or 5.
+fn read_weighed(bytes: &[u8], prime: u8, slot: u8, relation: Relation, digits: u8) -> RecordRead
+    requires { ⌜ recordSize Scored ≤ length (now bytes) ⌝ }
+    ensures { λ r. ⌜ recordAnswer r ≡ readTail Scored prime slot (relationIs relation) digits (now (bytes .entry)) ⌝ }
+{
+    let weight = bytes[4];
+    let spare = bytes[5];
+    if weight == 0 || prime <= weight {
+        return RecordRead::Refused(Refusal::ScoreWeight);
+    }
+    if spare != 0 {
+        return RecordRead::Refused(Refusal::SpareNotZero);
+    }
+    RecordRead::Read(Record {
+        relation,
+        digits,
+        left: slot,
+        right: slot,
+        weight,
+    })
 }
 
 // A record whose relation is known, or 9, or what its form asks after that, which may go by the prime.
@@ -121,7 +181,9 @@ fn read_counted(bytes: &[u8], form: Form, prime: u8, slot: u8, relation: Relatio
             digits,
             left: slot,
             right: slot,
+            weight: 0,
         }),
+        Form::Scored => read_weighed(bytes, prime, slot, relation, digits),
     }
 }
 
@@ -133,42 +195,56 @@ fn read_record(bytes: &[u8], form: Form, prime: u8, slot: u8) -> RecordRead
     if lacks_record_mark(bytes, form) {
         return RecordRead::Refused(Refusal::WrongMark);
     }
-    match bytes[2] {
-        1 => read_counted(bytes, form, prime, slot, Relation::Less),
-        2 => read_counted(bytes, form, prime, slot, Relation::AtMost),
-        3 => read_counted(bytes, form, prime, slot, Relation::Greater),
-        4 => read_counted(bytes, form, prime, slot, Relation::AtLeast),
-        5 => read_counted(bytes, form, prime, slot, Relation::Equal),
-        6 => read_counted(bytes, form, prime, slot, Relation::NotEqual),
-        _ => RecordRead::Refused(Refusal::UnknownRelation),
+    let number = bytes[2];
+    if records::outside(arithmetic::wide(number), 1, MOST_RELATION) {
+        return RecordRead::Refused(Refusal::UnknownRelation);
     }
+    read_counted(bytes, form, prime, slot, relation_of(number))
 }
 
-// The digits of the first count records together, or the first of their rules that is broken.
-fn read_conditions(records: &[u8], form: Form, prime: u8, count: usize) -> SlotsRead
+// The digits and weights of the first count records together, or the first of their rules that is broken.
+fn read_conditions(records: &[u8], form: Form, prime: u8, count: usize) -> SumsRead
     requires { ⌜ (count ≤ mostConditions) × (recordSize (formIs form) * count ≤ length (now records)) ⌝ }
-    ensures { λ r. ⌜ slotsAnswer r ≡ readSlotCount (formIs form) prime count (now (records .entry)) ⌝ }
+    ensures { λ r. ⌜ sumsAnswer r ≡ readSums (formIs form) prime count (now (records .entry)) ⌝ }
 {
     let size = record_size(form);
     let mut slots = 0;
+    let mut weights = 0;
     let mut k = 0;
     while k < count {
         let at = size * k;
         match read_record(&records[at..], form, prime, slots) {
-            RecordRead::Read(condition) => slots += condition.digits,
-            RecordRead::Refused(why) => return SlotsRead::Refused(why),
+            RecordRead::Read(condition) => {
+                slots += condition.digits;
+                weights += condition.weight as u16;
+            }
+            RecordRead::Refused(why) => return SumsRead::Refused(why),
         }
         k += 1;
     }
-    SlotsRead::Read(slots)
+    SumsRead::Read(Sums { slots, weights })
 }
 
-// A card whose conditions are read, or 10.
-fn limit_slots(head: CardHead) -> CardRead
-    ensures { λ r. ⌜ cardAnswer r ≡ withinSlots (head .slots) (headIs head) ⌝ }
+// Whether the weights of a score together are not below the prime.
+fn reaches_prime(form: Form, prime: u8, weights: u16) -> bool
+    ensures { λ r. ⌜ r ≡ wrongTotal (formIs form) prime weights ⌝ }
+{
+    match form {
+        Form::Plain => false,
+        Form::Scored => (prime as u16) <= weights,
+    }
+}
+
+// A card whose conditions are read, with their weights together, or 10, or 26.
+fn limit_sums(head: CardHead, weights: u16) -> CardRead
+    ensures { λ r. ⌜ cardAnswer r ≡ withinLimits (formIs (head .form)) (head .prime) (head .slots) weights (headIs head) ⌝ }
 {
     if digits::MOST_DIGITS < arithmetic::wide(head.slots) {
         return CardRead::Refused(Refusal::TooManyDigits);
+    }
+    let form = head.form;
+    if reaches_prime(form, head.prime, weights) {
+        return CardRead::Refused(Refusal::TotalWeight);
     }
     CardRead::Read(head)
 }
@@ -198,14 +274,17 @@ fn read_formed(card: &[u8], form: Form) -> CardRead
         return CardRead::Refused(Refusal::CardLength);
     }
     match read_conditions(&card[HEAD..], form, prime, arithmetic::wide(count)) {
-        SlotsRead::Read(slots) => limit_slots(CardHead {
-            form,
-            prime,
-            weight,
-            count,
-            slots,
-        }),
-        SlotsRead::Refused(why) => CardRead::Refused(why),
+        SumsRead::Read(sums) => limit_sums(
+            CardHead {
+                form,
+                prime,
+                weight,
+                count,
+                slots: sums.slots,
+            },
+            sums.weights,
+        ),
+        SumsRead::Refused(why) => CardRead::Refused(why),
     }
 }
 
@@ -222,21 +301,39 @@ pub fn read_card(card: &[u8]) -> CardRead
     }
 }
 
-// Condition number k of a card that was read, where slot is the next that is free.
+// The weight in the record from this byte on, or 0 where its form has none.
+fn weight_at(card: &[u8], form: Form, at: usize) -> u8
+    requires { ⌜ at + recordSize (formIs form) ≤ length (now card) ⌝ }
+    ensures { λ r. ⌜ r ≡ weightIn (formIs form) (drop at (now (card .entry))) ⌝ }
+{
+    match form {
+        Form::Plain => 0,
+        Form::Scored => card[at + 4],
+    }
+}
+
+// The weight of condition number k of a card that was read.
+pub fn weight_of(card: &[u8], head: CardHead, k: usize) -> u8
+    requires { ⌜ ReadAs (now card) head × (k < head .count) ⌝ }
+    ensures { λ r. ⌜ IsWeight (conditionsOf (now (card .entry))) k r ⌝ }
+{
+    let form = head.form;
+    weight_at(card, form, HEAD + record_size(form) * k)
+}
+
+// Condition number k of a card that was read, where slot is the next that is free. No rule is tested again.
 pub fn record_at(card: &[u8], head: CardHead, k: usize, slot: u8) -> Record
     requires { ⌜ ReadAs (now card) head × (k < head .count) × Taken (conditionsOf (now card)) k slot ⌝ }
     ensures { λ r. ⌜ IsRecord (conditionsOf (now (card .entry))) k r ⌝ }
 {
     let form = head.form;
     let at = HEAD + record_size(form) * k;
-    match read_record(&card[at..], form, head.prime, slot) {
-        RecordRead::Read(condition) => condition,
-        // Does not happen: a card that was read has no record that is refused.
-        RecordRead::Refused(_) => Record {
-            relation: Relation::Less,
-            digits: 1,
-            left: 0,
-            right: 0,
-        },
+    let relation = relation_of(card[at + 2]);
+    Record {
+        relation,
+        digits: card[at + 3],
+        left: slot,
+        right: slot,
+        weight: weight_at(card, form, at),
     }
 }

@@ -9,7 +9,9 @@ use Prim.Native.Nat.{ℕ, suc, _+_, _*_, _%_, _≤_, _<_, max, zero-le}
 use native.Mathlib.Omega.{arith}
 use native.Mathlib.Nat.{mod-mod, add-assoc}
 use lib.ListN.{length, length-map}
+use Rattle.field.specs.Logarithm.{clog}
 use Rattle.field.specs.Sum.{total}
+use Rattle.field.proofs.Logarithm.{clog-max, clog-small}
 use Rattle.field.proofs.Modular.{mod-same, add-cong, addMod-is, residue-below}
 use Rattle.circuit.specs.Count.{count, isProduct, isSquare}
 use Rattle.circuit.specs.Depth.{depths}
@@ -91,6 +93,20 @@ pub largest-within : {X : Type 0} (F : X → ℕ) (D : ℕ) (xs : List X) → Ev
 unfolding largest
 largest-within F D [] h = zero-le
 largest-within F D (x ∷ xs) h = omega (arith, h .0, largest-within F D xs (h .1))
+
+-- of entries that are all so much larger, so much larger
+pub largest-plus : {X : Type 0} (D : ℕ) (F : X → ℕ) (xs : List X) → 1 ≤ length xs
+    → largest (map (λ x. D + F x) xs) ≡ D + largest (map F xs)
+unfolding largest
+largest-plus D F [] some = absurd (omega arith)
+largest-plus D F (x ∷ []) some = omega arith
+largest-plus D F (x ∷ y ∷ xs) some = omega (arith, largest-plus D F (y ∷ xs) (omega arith))
+
+-- the largest has the largest logarithm
+pub clog-largest : {X : Type 0} (F : X → ℕ) (xs : List X) → clog (largest (map F xs)) ≡ largest (map (λ x. clog (F x)) xs)
+unfolding largest
+clog-largest F [] = clog-small 0 zero-le
+clog-largest F (x ∷ xs) = clog-max (F x) (largest (map F xs)) ∙ ap (max (clog (F x))) (clog-largest F xs)
 
 -- ---- how many gates they are
 

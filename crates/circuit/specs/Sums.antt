@@ -1,4 +1,5 @@
--- Sums of gates (document 01, "Writing one condition", of the terms of an order digit): "each after the first followed by ADD(sum, it)".
+-- Sums of gates: "each after the first followed by ADD(sum, it)" (document 01, "Writing one condition", of the terms of an order digit),
+-- "every term after the first is followed by ADD(sum, it)" (document 02, E1, of a score).
 use Prim.Native.Nat.{ℕ, suc, _+_, _-_, _*_, max}
 use mathlib.Core.List.{List, [], _∷_}
 use Rattle.circuit.specs.Gate.{Gate, Add}

@@ -1,1 +1,1 @@
-// Gate tables: what a table means, and product trees. Definitions and theorems; see specs/ and proofs/.
+// Gate tables: what a table means, product trees and sums. Definitions and theorems; see specs/ and proofs/.

@@ -25,11 +25,11 @@ use Rattle.circuit.proofs.Count.{count-append}
 use Rattle.circuit.proofs.Fitting.{all-fit, fit-append, all-named}
 use Rattle.circuit.proofs.Meaning.{solves-append, later-solved}
 use Rattle.comparison.specs.Bits.{ones}
-use Rattle.comparison.specs.Condition.{Condition, numberIn}
+use Rattle.comparison.specs.Condition.{Condition, unweighed, numberIn}
 use Rattle.comparison.specs.Digits.{orderDigitSize}
 use Rattle.comparison.specs.Formulas.{digitSize, gatesBeforeFlip, productsOf, squaresOf, costSummand}
 use Rattle.comparison.specs.Lawful.{Lawful}
-use Rattle.comparison.specs.Promises.{OutputIsLast, ConditionWrites, ConditionFits, ConditionHolds, ConditionTells, ConditionDepth, ConditionSized, ConditionCounts, OrderCost, CostWithin, EqualityTree}
+use Rattle.comparison.specs.Promises.{WeighsNothing, OutputIsLast, ConditionWrites, ConditionFits, ConditionHolds, ConditionTells, ConditionDepth, ConditionSized, ConditionCounts, OrderCost, CostWithin, EqualityTree}
 use Rattle.comparison.specs.Relation.{isOrder, isBackward, isFlipped, minuend, subtrahend, tested, flippedIf}
 use Rattle.comparison.specs.Tests.{Tests, baseTests}
 use Rattle.comparison.specs.Writing.{orderSegment, equalitySegment, segmentOf, ending, conditionBy}
@@ -283,3 +283,14 @@ cost-within p s c three odd some = go (isOrder (c .relation))
 
 pub equality-tree : EqualityTree
 equality-tree p k c two some = equality-least p two c some k
+
+-- ---- weights
+
+pub weighs-nothing : WeighsNothing
+unfolding conditionBy orderSegment equalitySegment
+weighs-nothing t p c k =
+    ap (λ (s : Segment). followedBy k (s .gates) (ending (isFlipped (c .relation)) (s .output))) (before-flip (isOrder (c .relation)))
+  where
+    before-flip : (order : Bool) → segmentOf order t p (unweighed c) k ≡ segmentOf order t p c k
+    before-flip true = refl
+    before-flip false = refl

@@ -1,7 +1,7 @@
 -- Each relation is a test of the two sides in the order in which they are subtracted, or its opposite where FLIP ends it;
 -- and the numbers in a condition's slots are those of its digits.
 -- Assumes nothing.
-use mathlib.Core.Path.{_≡_, refl, ap, ap₂, _∙_}
+use mathlib.Core.Path.{_≡_, refl, sym, ap, ap₂, _∙_}
 use mathlib.Core.Bool.{Bool, true, false, not}
 use mathlib.Core.List.{List, _∷_, map}
 use Prim.Native.Nat.{ℕ, zero, suc, _+_, _≤_, _<_}
@@ -12,12 +12,14 @@ use borrow.Author.Tests.{lt-ltb, le-ltb, le-leb, lt-leb}
 use lib.Dec.{ltb, leb}
 use lib.ListN.{length, take, drop, getD}
 use lib.Seq.{drop-cons}
+use Rattle.answer.specs.Outcome.{accepted, numbered}
+use Rattle.answer.proofs.Outcome.{accepted-same}
 use Rattle.digits.specs.Number.{base, number, allBelow}
 use Rattle.digits.proofs.Number.{below-at}
 use Rattle.comparison.specs.Condition.{Condition, numberIn}
 use Rattle.comparison.specs.DigitPromises.{firstDigit, secondDigit, InBase}
 use Rattle.comparison.specs.OrderDigit.{ascending}
-use Rattle.comparison.specs.Relation.{Less, AtMost, Greater, AtLeast, Equal, NotEqual, isBackward, minuend, subtrahend, RelationTested}
+use Rattle.comparison.specs.Relation.{Relation, Less, AtMost, Greater, AtLeast, Equal, NotEqual, relationNumber, relations, isBackward, minuend, subtrahend, RelationTested}
 
 -- ---- relations
 
@@ -27,6 +29,32 @@ not-greater x y = go (decLe x y)
     go : Dec (x ≤ y) → not (ltb y x) ≡ leb x y
     go (yes l) = rw (le-ltb y x l, le-leb x y l)
     go (no n) = rw (lt-ltb y x (lt-of-not-le n), lt-leb x y (lt-of-not-le n))
+
+-- ---- relations and their numbers
+
+pub relation-range : (r : Relation) → (1 ≤ relationNumber r) × (relationNumber r ≤ 6)
+relation-range Less = omega arith
+relation-range AtMost = omega arith
+relation-range Greater = omega arith
+relation-range AtLeast = omega arith
+relation-range Equal = omega arith
+relation-range NotEqual = omega arith
+
+-- the relation of its own number
+pub relation-back : (r : Relation) → numbered 8 (relationNumber r) relations ≡ accepted r
+relation-back Less = refl
+relation-back AtMost = refl
+relation-back Greater = refl
+relation-back AtLeast = refl
+relation-back Equal = refl
+relation-back NotEqual = refl
+
+-- so no two have the same
+pub same-relation : (r s : Relation) → relationNumber r ≡ relationNumber s → r ≡ s
+same-relation r s e =
+    accepted-same (sym (relation-back r) ∙ ap (λ (n : ℕ). numbered 8 n relations) e ∙ relation-back s)
+
+-- ---- what a relation tests
 
 pub relation-tested : RelationTested
 relation-tested Less x y = refl

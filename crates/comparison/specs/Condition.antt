@@ -1,4 +1,4 @@
--- Conditions (document 01, "Card" and "Whole card"): what one says, and where it holds.
+-- Conditions (document 01, "Card" and "Whole card"; of weights document 02, E1): what one says, and where it holds.
 use Prim.Native.Nat.{ℕ, _+_, _≤_}
 use mathlib.Core.Bool.{Bool}
 use mathlib.Core.List.{List}
@@ -6,12 +6,18 @@ use lib.ListN.{take, drop}
 use Rattle.digits.specs.Number.{number}
 use Rattle.comparison.specs.Relation.{Relation, isTrue}
 
--- "relation, n", and the first of its n slots on each side
+-- "relation, n", the first of its n slots on each side, and its weight in a score, which has no part in where it holds
+-- or in its gates (`WeighsNothing`); a card that asks for no score has conditions of weight 0
 pub record Condition : Type 0 where
   pub relation : Relation
   pub digits : ℕ
   pub left : ℕ
   pub right : ℕ
+  pub weight : ℕ
+
+-- the same without its weight
+abbrev pub unweighed : Condition → Condition
+unweighed c = record { relation = c .relation; digits = c .digits; left = c .left; right = c .right; weight = 0 }
 
 -- it has a digit at least, and its slots are among the first l on the left and the first r on the right
 abbrev pub HasSlots : ℕ → ℕ → Condition → Type 0

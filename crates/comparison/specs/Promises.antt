@@ -17,13 +17,19 @@ use Rattle.circuit.specs.Meaning.{entryAt}
 use Rattle.circuit.specs.Table.{Head, leftSlots, rightSlots, allFit}
 use Rattle.circuit.specs.TreePromises.{TwoLeast}
 use Rattle.circuit.specs.Value.{values}
-use Rattle.comparison.specs.Condition.{Condition, HasSlots, holds}
+use Rattle.comparison.specs.Condition.{Condition, unweighed, HasSlots, holds}
 use Rattle.comparison.specs.Digits.{equalityDigits}
 use Rattle.comparison.specs.Formulas.{conditionSize, conditionProducts, conditionSquares, conditionCost, costSummand}
 use Rattle.comparison.specs.Lawful.{Lawful}
 use Rattle.comparison.specs.Relation.{isOrder}
 use Rattle.comparison.specs.Tests.{Tests}
 use Rattle.comparison.specs.Writing.{equalityFactors, equalityJoining, conditionBy, conditionSegment}
+
+-- ---- by any tests
+
+-- a condition's gates are the same whatever it weighs
+abbrev pub WeighsNothing : Type 0
+WeighsNothing = (t : Tests) (p : ℕ) (c : Condition) (k : ℕ) → conditionBy t p (unweighed c) k ≡ conditionBy t p c k
 
 -- ---- by any lawful tests
 

@@ -1,15 +1,16 @@
 -- Digits and numbers: the number of a list from its lowest digit and the rest, or from its low and high digits, the digits of a number, and that each gives the other back.
 -- Everything is for any base above 0.
 -- Assumes nothing.
-use mathlib.Core.Path.{_≡_, refl, ap, ap₂, _∙_}
+use mathlib.Core.Path.{_≡_, refl, sym, ap, ap₂, _∙_}
 use mathlib.Core.Bool.{true}
 use mathlib.Core.List.{List, [], _∷_, _++_}
-use Prim.Native.Nat.{ℕ, zero, suc, _+_, _*_, _/_, _%_, _^_, _≤_, _<_}
+use Prim.Native.Nat.{ℕ, zero, suc, _+_, _-_, _*_, _/_, _%_, _^_, _≤_, _<_, min}
 use native.Mathlib.Omega.{arith}
 use native.Mathlib.Nat.{le-refl, mod-lt, mod-add-div, pow-zero, pow-suc, pow-succ', mul-one, mul-le-mul-left, div-lt-iff-lt-mul, add-mul-mod-self-left, add-mul-div-left, mod-eq-of-lt, div-eq-of-lt, zero-add, le-mul-of-pos-right}
 use borrow.Author.Tests.{ltb-true, lt-ltb}
 use lib.Dec.{ltb}
-use lib.ListN.{length, drop, getD}
+use lib.ListN.{length, take, drop, getD, length-take, length-drop}
+use lib.Seq.{getD-take, getD-drop, ext-getD}
 use Rattle.field.specs.Primes.{listed}
 use Rattle.field.specs.Sum.{sum}
 use Rattle.field.proofs.Tests.{both}
@@ -53,6 +54,20 @@ number-drop B p ds zero = le-refl _
 number-drop B p [] (suc i) = le-refl _
 number-drop B p (d ∷ ds) (suc i) =
     omega (arith, number-cons B d ds, number-drop B p ds i, le-mul-of-pos-right (number B ds) p)
+
+-- equally long lists that are the same in n places from the first on have the same part there
+pub same-part : (first n : ℕ) (ds es : List ℕ) → length ds ≡ length es
+    → ((i : ℕ) → first ≤ i → i < first + n → getD ds i 0 ≡ getD es i 0) → take n (drop first ds) ≡ take n (drop first es)
+same-part first n ds es long same =
+    let size : (xs : List ℕ) → length (take n (drop first xs)) ≡ min n (length xs - first)
+    = λ xs. length-take n (drop first xs) ∙ ap (min n) (length-drop first xs) in
+    let digit : (xs : List ℕ) (i : ℕ) → i < n → getD (take n (drop first xs)) i 0 ≡ getD xs (first + i) 0
+    = λ xs i l. getD-take n (drop first xs) i 0 l ∙ getD-drop first xs i 0 in
+    ext-getD 0 (take n (drop first ds)) (take n (drop first es))
+    (omega (arith, size ds, size es))
+    (λ i l.
+    let within : i < n = omega (arith, size ds) in
+    digit ds i within ∙ same (first + i) (omega arith) (omega arith) ∙ sym (digit es i within))
 
 -- ---- digits below B
 

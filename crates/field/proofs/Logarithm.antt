@@ -4,7 +4,7 @@
 use mathlib.Core.Path.{_≡_, refl, sym, ap, _∙_}
 use mathlib.Core.Logic.{_↔_}
 use mathlib.Core.Bool.{Bool, true, false, not}
-use Prim.Native.Nat.{ℕ, zero, suc, _+_, _*_, _/_, _^_, _≤_, _<_, zero-le}
+use Prim.Native.Nat.{ℕ, zero, suc, _+_, _*_, _/_, _^_, _≤_, _<_, zero-le, max}
 use native.Mathlib.Omega.{arith}
 use native.Mathlib.Nat.{le-antisymm, le-trans, le-refl, le-of-lt, lt-of-not-le, pow-succ', mul-pos}
 use lib.Dec.{T, leb, leb→le, nleb→lt}
@@ -49,6 +49,14 @@ clog-half n h =
 
 pub clog-mono : {m n : ℕ} → m ≤ n → clog m ≤ clog n
 clog-mono {m} {n} h = clog-is-ceiling m (clog n) .0 (le-trans h (clog-is-ceiling n (clog n) .1 (le-refl _)))
+
+-- what is at least both has a logarithm that is at least both, so the larger has the larger
+pub clog-max : (a b : ℕ) → clog (max a b) ≡ max (clog a) (clog b)
+clog-max a b =
+    sym (clog-unique (max a b) _ (λ d.
+    let left = clog-is-ceiling a d in
+    let right = clog-is-ceiling b d in
+    (λ h. omega (arith, left .0 (omega arith), right .0 (omega arith)), λ h. omega (arith, left .1 (omega arith), right .1 (omega arith)))))
 
 -- above one power of two, and at most the next
 pub clog-between : (n j : ℕ) → 2 ^ j < n → n ≤ 2 ^ suc j → clog n ≡ suc j

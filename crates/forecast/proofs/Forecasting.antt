@@ -1,29 +1,38 @@
 -- From what a card says and what its conditions count to what Forecast answers:
 -- the conditions are those of the accepted card, the numbers are the formulas' numbers, and these are what its table reports.
 -- Assumes nothing.
-use mathlib.Core.Path.{_≡_, sym, ap, subst}
+use mathlib.Core.Path.{_≡_, refl, sym, ap, ap₂, subst}
 use mathlib.Core.List.{List}
-use Prim.Native.Nat.{ℕ}
+use Prim.Native.Nat.{ℕ, _+_, _-_}
 use native.Mathlib.Omega.{arith}
 use Rattle.answer.specs.Outcome.{refused, accepted}
 use Rattle.answer.specs.Report.{Report}
 use Rattle.answer.proofs.Outcome.{was-refused}
+use Rattle.field.specs.Logarithm.{clog}
+use Rattle.comparison.specs.Condition.{Condition}
 use Rattle.comparison.specs.Formulas.{conditionProducts, conditionSquares}
 use Rattle.query.specs.Card.{Card}
-use Rattle.query.specs.Formulas.{gateCount, productCount, squareCount, depthFormula, numbersOf}
+use Rattle.query.specs.Form.{Form, Plain, Scored}
+use Rattle.query.specs.Formulas.{gateCount, levelsAbove, productCount, squareCount, numbersOf}
 use Rattle.query.specs.Outcomes.{forecasting}
 use Rattle.query.specs.Reading.{readCard}
 use Rattle.query.proofs.CardFacts.{accepted-card}
 use Rattle.query.proofs.OverConditions.{over-cost}
 use Rattle.query.proofs.Promises.{reported-numbers}
-use Rattle.forecast.specs.Counting.{totalsOf, InRanges, reportFrom}
+use Rattle.forecast.specs.Counting.{totalsOf, InRanges, levelsOf, reportFrom}
 use Rattle.card.specs.declared.CardHead.{CardHead}
 use Rattle.card.specs.Conditions.{ReadAs, conditionsOf}
 use Rattle.card.specs.Parts.{Summary, summary, headIs, readSummary}
 use Rattle.card.proofs.ReadAs.{known-as}
+use Rattle.circuit.proofs.Sums.{clog-largest}
 
 pub refused-too : (bytes : List ℕ) (number : ℕ) → refused number ≡ readSummary bytes → refused number ≡ forecasting bytes
 refused-too bytes number e = rw (was-refused number (readCard bytes) summary e)
+
+-- the formulas' levels, by the form
+levels-are : (form : Form) (p : ℕ) (cs : List Condition) → levelsOf form (totalsOf p cs) ≡ levelsAbove form cs
+levels-are Plain p cs = refl
+levels-are Scored p cs = clog-largest (λ (c : Condition). c .digits) cs
 
 -- the formulas' numbers: products and squares are paid apart
 numbers-are : (card : Card) → reportFrom (summary card) (totalsOf (card .prime) (card .conditions)) ≡ numbersOf card
@@ -31,15 +40,15 @@ numbers-are card =
     let p = card .prime in
     let s = card .weight in
     let parts = over-cost s (conditionProducts p) (conditionSquares p) (card .conditions) in
-    ap told (omega (arith, parts))
+    ap₂ told (omega (arith, parts)) (levels-are (card .form) p (card .conditions))
   where
-    told : ℕ → Report
-    told cost = record {
+    told : ℕ → ℕ → Report
+    told cost levels = record {
       gates = gateCount card;
       products = productCount card;
       squares = squareCount card;
       cost = cost;
-      depth = depthFormula card;
+      depth = clog (card .prime - 1) + levels;
     }
 
 -- what Forecast needs to know of a card that was read

@@ -1,16 +1,19 @@
--- What Forecast adds up: the counts of a digit, of a condition and of all conditions (document 01, "Whole card"),
+-- What Forecast adds up: the counts of a digit, of a condition and of all conditions (document 01, "Whole card"; document 02, E1),
 -- and the report that they make. That they are those of the formulas is proved in `proofs/Counting.antt`.
 use Prim.Native.Nat.{ℕ, _+_, _-_, _*_, _^_, _≤_}
 use mathlib.Core.Bool.{Bool, true, false}
-use mathlib.Core.List.{List}
+use mathlib.Core.List.{List, map}
 use Rattle.answer.specs.Report.{Report, costOf}
 use Rattle.field.specs.Logarithm.{clog}
+use Rattle.digits.specs.Number.{mostDigits}
+use Rattle.circuit.specs.Sums.{largest}
 use Rattle.circuit.specs.Table.{mostWeight}
 use Rattle.comparison.specs.Condition.{Condition}
 use Rattle.comparison.specs.Formulas.{digitSize, joinedSize, digitProducts, joinedProducts, digitSquares, joinedSquares, endedSize, conditionSize, conditionProducts, conditionSquares}
 use Rattle.comparison.specs.Relation.{Relation, isOrder}
-use Rattle.query.specs.Card.{mostConditions}
-use Rattle.query.specs.Formulas.{overConditions}
+use Rattle.query.specs.Card.{mostConditions, overConditions}
+use Rattle.query.specs.Form.{Form, Plain, Scored}
+use Rattle.query.specs.Formulas.{endSize, endProducts}
 use Rattle.card.specs.Parts.{Summary}
 use Rattle.forecast.specs.declared.Counts.{Counts}
 use Rattle.forecast.specs.declared.Totals.{Totals}
@@ -64,12 +67,17 @@ totalsOf p cs = record {
   products = overConditions (conditionProducts p) cs;
   squares = overConditions (conditionSquares p) cs;
   breadth = overConditions (λ (c : Condition). 2 ^ clog (c .digits)) cs;
+  longest = largest (map (λ (c : Condition). c .digits) cs);
 }
 
 -- what k conditions can have at most
 abbrev pub TotalsWithin : ℕ → Totals → Type 0
 TotalsWithin k t =
-    (t .gates ≤ mostInCondition * k) × (t .products ≤ mostInCondition * k) × (t .squares ≤ mostInCondition * k) × (t .breadth ≤ 32 * k)
+    (t .gates ≤ mostInCondition * k)
+    × (t .products ≤ mostInCondition * k)
+    × (t .squares ≤ mostInCondition * k)
+    × (t .breadth ≤ 32 * k)
+    × (t .longest ≤ mostDigits)
 
 -- ---- the report
 
@@ -77,12 +85,17 @@ TotalsWithin k t =
 abbrev pub InRanges : Summary → Type 0
 InRanges said = (3 ≤ said .prime) × (said .prime ≤ 251) × (said .weight ≤ mostWeight) × (1 ≤ said .count) × (said .count ≤ mostConditions)
 
--- "plus c-1", the cost of the two counts, and the depth
+-- "ceil(log2(the sum over the conditions of 2^ceil(log2 n)))"; of a score card "the largest ceil(log2 n)", that of the largest n
+abbrev pub levelsOf : Form → Totals → ℕ
+levelsOf Plain t = clog (t .breadth)
+levelsOf Scored t = clog (t .longest)
+
+-- the conditions' counts with those of the gates after them, the cost of the two counts, and the depth
 abbrev pub reportFrom : Summary → Totals → Report
 reportFrom said t = record {
-  gates = t .gates + (said .count - 1);
-  products = t .products + (said .count - 1);
+  gates = t .gates + endSize (said .form) (said .count);
+  products = t .products + endProducts (said .form) (said .count);
   squares = t .squares;
-  cost = costOf (said .weight) (t .products + (said .count - 1)) (t .squares);
-  depth = clog (said .prime - 1) + clog (t .breadth);
+  cost = costOf (said .weight) (t .products + endProducts (said .form) (said .count)) (t .squares);
+  depth = clog (said .prime - 1) + levelsOf (said .form) t;
 }

@@ -4,10 +4,11 @@ use answer::Report;
 use answer::Reported;
 use card::CardHead;
 use card::CardRead;
+use card::Form;
 use relations::Relation;
 ghost use mathlib.Core.Path.{_≡_};
 ghost use mathlib.Core.Bool.{true, false};
-ghost use Prim.Native.Nat.{_^_, _≤_};
+ghost use Prim.Native.Nat.{_*_, _^_, _≤_};
 ghost use Rattle.answer.specs.Outcome.{accepted};
 ghost use Rattle.answer.specs.Report.{reportAnswer};
 ghost use Rattle.answer.specs.declared.Reported.the-variants.{Success};
@@ -15,11 +16,12 @@ ghost use Rattle.field.specs.Logarithm.{clog};
 ghost use Rattle.digits.specs.Number.{mostDigits};
 ghost use Rattle.comparison.specs.Bits.{ones};
 ghost use Rattle.query.specs.Card.{mostConditions};
+ghost use Rattle.query.specs.Formulas.{endSize, endProducts};
 ghost use Rattle.query.specs.Outcomes.{forecasting};
-ghost use Rattle.forecast.specs.Counting.{mostInDigit, mostBeforeFlip, mostInCondition, Within, digitCounts, joinedCounts, endedCounts, conditionCounts, totalsOf, TotalsWithin, InRanges, reportFrom};
+ghost use Rattle.forecast.specs.Counting.{mostInDigit, mostBeforeFlip, mostInCondition, Within, digitCounts, joinedCounts, endedCounts, conditionCounts, totalsOf, TotalsWithin, InRanges, levelsOf, reportFrom};
 ghost use Rattle.relations.specs.Relations.{relationIs};
 ghost use Rattle.card.specs.Conditions.{ReadAs, conditionsOf};
-ghost use Rattle.card.specs.Parts.{headIs};
+ghost use Rattle.card.specs.Parts.{formIs, headIs};
 
 // How many gates, products and squares there are in a digit or a condition.
 struct Counts {
@@ -28,12 +30,13 @@ struct Counts {
     squares: u32,
 }
 
-// The counts of all conditions together, and the sum of 2^ceil(log2 n) over them.
+// The counts of all conditions together, the sum of 2^ceil(log2 n) over them, and the largest digit count.
 struct Totals {
     gates: u32,
     products: u32,
     squares: u32,
     breadth: u32,
+    longest: u8,
 }
 
 // How many bits of t are set.
@@ -154,6 +157,7 @@ fn count_conditions(card: &[u8], head: CardHead) -> Totals
     let mut products: u32 = 0;
     let mut squares: u32 = 0;
     let mut breadth: u32 = 0;
+    let mut longest: u8 = 0;
     let mut slot: u8 = 0;
     let mut k = 0;
     while k < count {
@@ -164,6 +168,9 @@ fn count_conditions(card: &[u8], head: CardHead) -> Totals
         products += own.products;
         squares += own.squares;
         breadth += power_above(condition.digits) as u32;
+        if longest < condition.digits {
+            longest = condition.digits;
+        }
         slot += condition.digits;
         k += 1;
     }
@@ -172,23 +179,59 @@ fn count_conditions(card: &[u8], head: CardHead) -> Totals
         products,
         squares,
         breadth,
+        longest,
     }
 }
 
-// The five numbers: those of the conditions, and the product tree over their outputs.
+// How many gates come after those of the conditions: the product tree's, or a SCALE for each condition and an ADD for each but the first.
+fn end_gates(form: Form, count: u8) -> u32
+    requires { ⌜ 1 ≤ count ⌝ }
+    ensures { λ r. ⌜ (r ≡ endSize (formIs form) count) × (r ≤ 2 * count) ⌝ }
+{
+    let conditions = count as u32;
+    match form {
+        Form::Plain => conditions - 1,
+        Form::Scored => 2 * conditions - 1,
+    }
+}
+
+// How many of these are products: all of the product tree's, and none of a score's.
+fn end_products(form: Form, count: u8) -> u32
+    requires { ⌜ 1 ≤ count ⌝ }
+    ensures { λ r. ⌜ (r ≡ endProducts (formIs form) count) × (r ≤ count) ⌝ }
+{
+    match form {
+        Form::Plain => (count - 1) as u32,
+        Form::Scored => 0,
+    }
+}
+
+// The levels above those of a digit: of the joinings and the product tree, or of the deepest joining alone, to which a score adds none.
+fn levels_of(form: Form, totals: Totals) -> u16
+    requires { ⌜ TotalsWithin mostConditions totals ⌝ }
+    ensures { λ r. ⌜ (r ≡ levelsOf (formIs form) totals) × (r ≤ 16) ⌝ }
+{
+    match form {
+        Form::Plain => arithmetic::ceil_log2(totals.breadth as u16),
+        Form::Scored => arithmetic::ceil_log2(totals.longest as u16),
+    }
+}
+
+// The five numbers: those of the conditions, with the gates after them, which the form tells.
 fn report_on(head: CardHead, totals: Totals) -> Report
     requires { ⌜ InRanges (headIs head) × TotalsWithin mostConditions totals ⌝ }
     ensures { λ r. ⌜ reportAnswer (Success r) ≡ accepted (reportFrom (headIs head) totals) ⌝ }
 {
-    let tree = (head.count - 1) as u32;
-    let products = totals.products + tree;
+    let form = head.form;
+    let gates = totals.gates + end_gates(form, head.count);
+    let products = totals.products + end_products(form, head.count);
     let levels = arithmetic::ceil_log2((head.prime - 1) as u16);
     Report {
-        gates: (totals.gates + tree) as u16,
+        gates: gates as u16,
         products: products as u16,
         squares: totals.squares as u16,
         cost: answer::cost_of(products, totals.squares, head.weight),
-        depth: Depth(levels + arithmetic::ceil_log2(totals.breadth as u16)),
+        depth: Depth(levels + levels_of(form, totals)),
     }
 }
 

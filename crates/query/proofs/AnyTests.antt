@@ -1,13 +1,13 @@
--- The table of an accepted card by any lawful tests of its order digits: its draft is sound (`Whole`), and its product tree ends the table;
--- so the table's last gate is the tree's output, and the laws of product trees give value, depth and rules.
+-- The table of an accepted card by any lawful tests of its order digits: its draft is sound (`Whole`), and its product tree or its score
+-- ends the table (`Ending`); so the table's last gate is the tree's output or the sum, and their laws give value, depth and rules.
 -- Assumes nothing.
-use mathlib.Core.Path.{_≡_, refl, sym, ap, _∙_}
-use mathlib.Core.Bool.{Bool, true}
-use mathlib.Core.List.{List, [], _∷_, map, map-map}
+use mathlib.Core.Path.{_≡_, refl, sym, ap, subst, _∙_}
+use mathlib.Core.Bool.{true}
+use mathlib.Core.List.{List, [], _∷_, _++_, map, map-map}
 use Prim.Native.Nat.{ℕ, suc, _-_, _%_, _^_, _≤_, _<_}
 use native.Mathlib.Omega.{arith}
 use native.Mathlib.Nat.{zero-add, mod-eq-of-lt}
-use lib.ListN.{length, length-append}
+use lib.ListN.{length}
 use Rattle.answer.specs.Outcome.{accepted}
 use Rattle.field.specs.Bit.{bit}
 use Rattle.field.specs.Logarithm.{clog}
@@ -19,24 +19,28 @@ use Rattle.circuit.specs.Depth.{depths, depth}
 use Rattle.circuit.specs.Every.{Every}
 use Rattle.circuit.specs.Factors.{breadth, listProduct}
 use Rattle.circuit.specs.Gate.{Gate}
-use Rattle.circuit.specs.Meaning.{Algebra, entries, entryAt, output}
+use Rattle.circuit.specs.Meaning.{Algebra, entries, entryAt, output, Solves}
+use Rattle.circuit.specs.ProductTree.{productTree}
 use Rattle.circuit.specs.Segment.{Node, Segment}
 use Rattle.circuit.specs.Table.{Head, leftSlots, rightSlots, allFit}
 use Rattle.circuit.specs.Value.{values}
 use Rattle.circuit.proofs.Bounds.{values-below}
-use Rattle.circuit.proofs.Every.{every-map₂, map-same}
+use Rattle.circuit.proofs.Every.{every-map, map-same}
 use Rattle.circuit.proofs.Fitting.{fit-append}
 use Rattle.circuit.proofs.Kraft.{at-least}
-use Rattle.circuit.proofs.ProductTree.{tree-last, product-fits, product-count, product-value, product-depth}
+use Rattle.circuit.proofs.ProductTree.{product-value}
+use Rattle.circuit.proofs.TreeDepth.{tree-depth}
 use Rattle.comparison.specs.Condition.{Condition, holds}
 use Rattle.comparison.specs.Lawful.{Lawful}
 use Rattle.comparison.specs.Tests.{Tests}
-use Rattle.query.specs.Card.{Card}
-use Rattle.query.specs.Holds.{allHold, truths}
-use Rattle.query.specs.AnyTests.{LawfulAnswer, LawfulOutputs, LawfulFits, LawfulDepth}
+use Rattle.query.specs.Card.{Card, AsksYesOrNo, AsksScore}
+use Rattle.query.specs.Holds.{allHold, truths, scoreOf}
+use Rattle.query.specs.AnyTests.{LawfulAnswer, LawfulScore, LawfulOutputs, LawfulFits, LawfulDepth}
 use Rattle.query.specs.Reading.{readCard}
-use Rattle.query.specs.Whole.{Draft, begin, treeOf, filledBy, tableBy, tableOf}
+use Rattle.query.specs.Whole.{Draft, begin, endOf, filledBy, tableBy, tableOf}
 use Rattle.query.proofs.CardFacts.{Accepted, accepted-card}
+use Rattle.query.proofs.Ending.{tree-end, sum-end, end-fits, end-last, last-gate, end-solved, output-depths, end-depth}
+use Rattle.query.proofs.Score.{each-below, score-most, score-value}
 use Rattle.query.proofs.Whole.{Good, Sound, begin-sound, outputs-kept, all-outputs, all-sound, all-value}
 
 -- the truths' product tells whether all conditions hold
@@ -68,12 +72,6 @@ module _ (bytes : List ℕ) (card : Card) (e : readCard bytes ≡ accepted card)
     abbrev draft : Draft
     draft = filledBy t card
 
-    abbrev k : ℕ
-    k = length (draft .gates)
-
-    abbrev tree : Segment
-    tree = treeOf draft
-
     abbrev gates : List Gate
     gates = tableBy t card .gates
 
@@ -86,45 +84,46 @@ module _ (bytes : List ℕ) (card : Card) (e : readCard bytes ≡ accepted card)
     pub some : 1 ≤ length (draft .outputs)
     some = omega (arith, outputs-length, known .count .0)
 
-    -- the tree's output is the last gate
-    pub output-last : suc (tree .output .gate) ≡ length gates
-    output-last =
-        let count = product-count k (draft .outputs) some (sound .order) .0 in
-        omega (arith, tree-last k (draft .outputs) some (sound .single), length-append (draft .gates) (tree .gates), count)
+    -- ---- both endings
 
-    last-gate : tree .output .gate ≡ length gates - 1
-    last-gate = omega (arith, output-last)
+    -- the output is the last gate, and its node tells the depth
+    pub output-last : suc (endOf card draft .output .gate) ≡ length gates
+    output-last = end-last head (card .conditions) draft sound outputs-length (known .count .0) (card .form)
 
-    -- ---- rules
+    pub depth-told : endOf card draft .output .depth ≡ depth gates
+    depth-told = end-depth head (card .conditions) draft sound outputs-length (known .count .0) (card .form) (known .weights)
 
     pub gates-fit : allFit head 0 gates ≡ true
     gates-fit =
-        fit-append head 0 (draft .gates) (tree .gates) (sound .fitted)
-        (rw (zero-add k) (product-fits head k (draft .outputs) some (sound .order)))
+        fit-append head 0 (draft .gates) (endOf card draft .gates) (sound .fitted)
+        (rw (zero-add (length (draft .gates)))
+        (end-fits head (card .conditions) draft sound outputs-length (known .count .0) (card .form) (known .weights)))
 
-    -- ---- depth
+    -- ---- the product tree
 
-    pub depth-is : depth gates ≡ clog (breadth (draft .outputs))
-    depth-is = ap (entryAt depths gates) (sym last-gate) ∙ product-depth (draft .gates) (draft .outputs) some (sound .order) (sound .nodes)
+    -- the table of a card that asks for a yes or no
+    module _ (asks : AsksYesOrNo card) where
+      pub tree-ends : endOf card draft ≡ productTree (length (draft .gates)) (draft .outputs)
+      tree-ends = tree-end (card .form) p (card .conditions) (length (draft .gates)) (draft .outputs) asks
 
-    -- each output's node tells the depth of its gate in the whole table
-    output-depths : Every (λ (f : Node). 2 ^ entryAt depths gates (f .gate) ≡ 2 ^ f .depth) (draft .outputs)
-    output-depths =
-        every-map₂ (λ (f : Node) kept node. ap (λ (d : ℕ). 2 ^ d) (kept ∙ node)) (draft .outputs)
-        (outputs-kept head depths draft (tree .gates) sound) (sound .nodes)
+      depth-is : depth gates ≡ clog (breadth (draft .outputs))
+      depth-is =
+          sym depth-told ∙ ap (λ (end : Segment). end .output .depth) tree-ends ∙ tree-depth (length (draft .gates)) (draft .outputs) some
 
     gates-breadth : total (map (λ (g : ℕ). 2 ^ entryAt depths gates g) (map (λ (f : Node). f .gate) (draft .outputs))) ≡ breadth (draft .outputs)
-    gates-breadth = ap total (map-map _ (λ (f : Node). f .gate) (draft .outputs) ∙ map-same _ _ (draft .outputs) output-depths)
+    gates-breadth =
+        ap total
+        (map-map _ (λ (f : Node). f .gate) (draft .outputs)
+        ∙ map-same _ _ (draft .outputs)
+        (every-map (λ (f : Node) told. ap (λ (d : ℕ). 2 ^ d) told) (draft .outputs)
+        (output-depths head (card .conditions) draft sound outputs-length (known .count .0) (card .form))))
 
-    -- ---- value
+    -- ---- values
 
     module _ (left right : List ℕ) (l : length left ≡ leftSlots head) (r : length right ≡ rightSlots head)
         (hl : allBelow (base p) left ≡ true) (hr : allBelow (base p) right ≡ true) where
       abbrev alg : Algebra ℕ
       alg = values p left right
-
-      abbrev answer : Bool
-      answer = allHold (base p) left right (card .conditions)
 
       abbrev bits : List ℕ
       bits = truths (base p) left right (card .conditions)
@@ -135,9 +134,9 @@ module _ (bytes : List ℕ) (card : Card) (e : readCard bytes ≡ accepted card)
           all-value t head law three (known .prime .prime) (known .prime .odd) left right (omega arith) (omega arith) hl hr
           begin (card .conditions) (begin-sound head) good
 
-      -- and so they are in the table: the tree's gates change none of them
+      -- and so they are in the table: the gates after the draft change none of them
       output-values : map (λ (f : Node). entryAt alg gates (f .gate)) (draft .outputs) ≡ bits
-      output-values = map-same _ _ (draft .outputs) (outputs-kept head alg draft (tree .gates) sound) ∙ draft-values
+      output-values = map-same _ _ (draft .outputs) (outputs-kept head alg draft (endOf card draft .gates) sound) ∙ draft-values
 
       below : output alg gates < p
       below =
@@ -146,18 +145,40 @@ module _ (bytes : List ℕ) (card : Card) (e : readCard bytes ≡ accepted card)
           (values-below p left right gates (omega (arith, three))
           (below-weaken (base p) p left low hl) (below-weaken (base p) p right low hr))
 
-      right-value : output alg gates ≡ bit answer
-      right-value =
-          sym (mod-eq-of-lt below)
-          ∙ ap (λ (g : ℕ). entryAt alg gates g % p) (sym last-gate)
+      -- a number below p that the output is modulo p is the output
+      output-is : (x : ℕ) → x < p → entryAt alg gates (endOf card draft .output .gate) % p ≡ x % p → output alg gates ≡ x
+      output-is x l e =
+          let last = last-gate head (card .conditions) draft sound outputs-length (known .count .0) (card .form) in
+          sym (mod-eq-of-lt below) ∙ ap (λ (g : ℕ). entryAt alg gates g % p) last ∙ e ∙ mod-eq-of-lt l
+
+      right-value : AsksYesOrNo card → output alg gates ≡ bit (allHold (base p) left right (card .conditions))
+      right-value asks =
+          let answer = allHold (base p) left right (card .conditions) in
+          output-is (bit answer) (bit-below p (omega (arith, three)) answer)
+          (ap (λ (end : Segment). entryAt alg (draft .gates ++ end .gates) (end .output .gate) % p) (tree-ends asks)
           ∙ product-value p left right (draft .gates) (draft .outputs) (omega (arith, three)) some (sound .order)
-          ∙ ap (λ (v : ℕ). v % p) (ap listProduct draft-values ∙ truths-product (base p) left right (card .conditions))
-          ∙ mod-eq-of-lt (bit-below p (omega (arith, three)) answer)
+          ∙ ap (λ (v : ℕ). v % p) (ap listProduct draft-values ∙ truths-product (base p) left right (card .conditions)))
+
+      score-is : AsksScore card → output alg gates ≡ scoreOf (base p) left right (card .conditions)
+      score-is asks =
+          let cs = card .conditions in
+          let k = length (draft .gates) in
+          let ends = sum-end (card .form) p cs k (draft .outputs) asks in
+          let solved = end-solved head cs draft sound outputs-length (known .count .0) alg (card .form) (known .weights) in
+          let most : scoreOf (base p) left right cs < p = omega (arith, score-most (base p) left right cs, known .weights asks) in
+          output-is (scoreOf (base p) left right cs) most
+          (ap (λ (end : Segment). entryAt alg gates (end .output .gate) % p) ends
+          ∙ score-value p left right (omega (arith, three)) (entryAt alg gates) (base p) k cs (draft .outputs)
+          outputs-length (known .count .0) (each-below p cs (known .weights asks)) output-values
+          (subst (λ (end : Segment). Solves alg (entryAt alg gates) k (end .gates)) ends solved))
 
 -- ---- the promises
 
 pub lawful-answer : LawfulAnswer
-lawful-answer bytes left right card t e law l r = right-value bytes card e t law left right (l .0) (r .0) (l .1) (r .1)
+lawful-answer bytes left right card t e law asks l r = right-value bytes card e t law left right (l .0) (r .0) (l .1) (r .1) asks
+
+pub lawful-score : LawfulScore
+lawful-score bytes left right card t e law asks l r = score-is bytes card e t law left right (l .0) (r .0) (l .1) (r .1) asks
 
 pub lawful-outputs : LawfulOutputs
 lawful-outputs bytes left right card t e law l r = output-values bytes card e t law left right (l .0) (r .0) (l .1) (r .1)
@@ -166,6 +187,6 @@ pub lawful-fits : LawfulFits
 lawful-fits bytes card t e law = gates-fit bytes card e t law
 
 pub lawful-depth : LawfulDepth
-lawful-depth bytes card t tree e law same =
+lawful-depth bytes card t tree e law asks same =
     let outputs = map (λ (f : Node). f .gate) (filledBy t card .outputs) in
-    rw (depth-is bytes card e t law, ← gates-breadth bytes card e t law) (at-least (entryAt depths (tableBy t card .gates)) outputs tree same)
+    rw (depth-is bytes card e t law asks, ← gates-breadth bytes card e t law) (at-least (entryAt depths (tableBy t card .gates)) outputs tree same)

@@ -22,7 +22,7 @@ use Rattle.circuit.specs.Report.{report}
 use Rattle.circuit.specs.Table.{tableBytes, wrongWeight}
 use Rattle.circuit.proofs.Reading.{table-length}
 use Rattle.comparison.specs.Relation.{relations}
-use Rattle.query.specs.Card.{Card, wrongConditionCount, slotsOf}
+use Rattle.query.specs.Card.{Card, wrongConditionCount, slotsOf, totalWeight, wrongTotal}
 use Rattle.query.specs.CardPromises.{TurnedAway, RoomDecides, FillsExactly, RefusalKeeps, SameRefusal}
 use Rattle.query.specs.Form.{headSize, Form, recordMarkOf, recordSize, formOf}
 use Rattle.query.specs.Outcomes.{tableRoom, building, forecasting}
@@ -66,7 +66,8 @@ card-refuses bytes =
     (refuse-refuses (wrongConditionCount count) 6 (omega arith)
     (refuse-refuses (not (eqb (length bytes) (headSize + recordSize form * count))) 7 (omega arith)
     (onAnswer-refuses (readConditions form (byte bytes 2) 0 count (drop headSize bytes)) (conditions-refuse form (byte bytes 2) 0 count (drop headSize bytes)) (λ cs.
-    refuse-refuses (ltb mostDigits (slotsOf cs)) 10 (omega arith) accepted-refuses))))))))
+    refuse-refuses (ltb mostDigits (slotsOf cs)) 10 (omega arith)
+    (refuse-refuses (wrongTotal form (byte bytes 2) (totalWeight cs)) 26 (omega arith) accepted-refuses)))))))))
 
 pub turned-away : TurnedAway
 turned-away bytes lent number e = (rw e, card-refuses bytes .number number e .0)

@@ -1,13 +1,13 @@
 -- What an accepted card keeps, as facts of numbers: its prime, its weight, how many conditions and slots it has,
--- and the slots of each condition.
+-- the slots of each condition, and the total weight of a score card.
 -- The conditions' slots follow one another, so each ends where the later ones begin, and the last at N.
 -- Assumes nothing.
 use mathlib.Core.Path.{_≡_}
 use mathlib.Core.Bool.{true, false}
 use mathlib.Core.List.{List, [], _∷_}
-use Prim.Native.Nat.{ℕ, _+_, _≤_}
+use Prim.Native.Nat.{ℕ, _+_, _≤_, _<_}
 use native.Mathlib.Omega.{arith}
-use borrow.Author.Tests.{ltb-false}
+use borrow.Author.Tests.{leb-false, ltb-false}
 use lib.ListN.{length}
 use Rattle.answer.specs.Outcome.{accepted}
 use Rattle.field.specs.Primes.{OddPrime, listed}
@@ -18,7 +18,7 @@ use Rattle.digits.specs.Number.{mostDigits}
 use Rattle.circuit.specs.Every.{Every}
 use Rattle.circuit.specs.Table.{leastWeight, mostWeight, wrongWeight, leftSlots, rightSlots}
 use Rattle.comparison.specs.Condition.{Condition, HasSlots}
-use Rattle.query.specs.Card.{Card, mostConditions, slotsOf, inSlots}
+use Rattle.query.specs.Card.{Card, AsksScore, mostConditions, slotsOf, totalWeight, inSlots}
 use Rattle.query.specs.Form.{Form}
 use Rattle.query.specs.Reading.{readCard}
 use Rattle.query.specs.Whole.{tableOf}
@@ -32,6 +32,10 @@ pub record Accepted (card : Card) : Type 0 where
   pub weightTest : wrongWeight (card .weight) ≡ false
   pub count : (1 ≤ length (card .conditions)) × (length (card .conditions) ≤ mostConditions)
   pub slots : (1 ≤ slotsOf (card .conditions)) × (slotsOf (card .conditions) ≤ mostDigits)
+  -- the conditions' slots follow one another
+  pub placed : inSlots (card .form) (card .prime) 0 (card .conditions) ≡ true
+  -- the weights of a score card are within the field
+  pub weights : AsksScore card → totalWeight (card .conditions) < card .prime
   -- so many slots has the table's head on each side
   pub sides : (leftSlots (tableOf card .head) ≤ mostDigits) × (rightSlots (tableOf card .head) ≤ mostDigits)
   -- and each condition's are among them
@@ -64,6 +68,8 @@ accepted-keeps card k =
       weightTest = k .weight;
       count = count;
       slots = (some-slot (card .form) (card .prime) 0 (card .conditions) (k .placed) (count .0), few);
+      placed = k .placed;
+      weights = λ asks. leb-false (card .prime) (totalWeight (card .conditions)) (rw asks at (k .weights));
       sides = (few, few);
       each = in-card (card .form) (card .prime) (slotsOf (card .conditions)) 0 (card .conditions) (k .placed) (omega arith);
     }

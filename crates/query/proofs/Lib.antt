@@ -6,5 +6,8 @@ pub mod Reading
 pub mod CardFacts
 pub mod OverConditions
 pub mod Whole
+mod Score
+mod Ending
 pub mod AnyTests
 pub mod Promises
+pub mod ScorePromises

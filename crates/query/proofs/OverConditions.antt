@@ -1,24 +1,25 @@
 -- Sums over the conditions of a card, and the bound on a condition's gates that keeps every table within 8191.
 -- Assumes nothing.
-use mathlib.Core.Path.{_≡_}
+use mathlib.Core.Path.{_≡_, ap, _∙_}
 use mathlib.Core.Bool.{Bool, true, false}
-use mathlib.Core.List.{List, [], _∷_}
+use mathlib.Core.List.{List, [], _∷_, _++_, map, map-append}
 use Prim.Native.Nat.{ℕ, _+_, _-_, _*_, _/_, _%_, _^_, _≤_}
 use native.Mathlib.Omega.{arith}
 use native.Mathlib.Nat.{le-refl, mul-le-mul-left}
 use lib.ListN.{length}
-use lib.Pow.{pow-pos}
+use lib.Pow.{pow-pos, pow-add}
 use Rattle.answer.specs.Report.{costOf}
 use Rattle.field.specs.Bit.{bit}
 use Rattle.field.specs.Logarithm.{flog}
 use Rattle.field.specs.Sum.{total}
+use Rattle.field.proofs.Sum.{total-append}
 use Rattle.circuit.specs.Every.{Every}
 use Rattle.comparison.specs.Bits.{ones}
 use Rattle.comparison.specs.Condition.{Condition}
 use Rattle.comparison.specs.Formulas.{gatesBeforeFlip, conditionSize}
 use Rattle.comparison.specs.Relation.{isOrder, isFlipped}
 use Rattle.comparison.proofs.Bits.{ones-below, flog-below}
-use Rattle.query.specs.Formulas.{overConditions}
+use Rattle.query.specs.Card.{overConditions}
 
 pub over-mono : (f g : Condition → ℕ) (cs : List Condition) → Every (λ (c : Condition). f c ≤ g c) cs
     → overConditions f cs ≤ overConditions g cs
@@ -32,6 +33,9 @@ unfolding total
 over-times a f [] = omega arith
 over-times a f (c ∷ cs) = omega (arith, over-times a f cs)
 
+pub over-append : (f : Condition → ℕ) (cs ds : List Condition) → overConditions f (cs ++ ds) ≡ overConditions f cs + overConditions f ds
+over-append f cs ds = ap total (map-append f cs ds) ∙ total-append (map f cs) (map f ds)
+
 -- products and squares summed apart
 pub over-cost : (s : ℕ) (f g : Condition → ℕ) (cs : List Condition)
     → overConditions (λ (c : Condition). costOf s (f c) (g c)) cs ≡ costOf s (overConditions f cs) (overConditions g cs)
@@ -43,6 +47,13 @@ pub over-some : (f : Condition → ℕ) (cs : List Condition) → 1 ≤ length c
 unfolding total
 over-some f [] some = absurd (omega arith)
 over-some f (c ∷ cs) some = omega (arith, pow-pos (f c))
+
+-- a power that all have
+pub over-powers : (D : ℕ) (f : Condition → ℕ) (cs : List Condition)
+    → overConditions (λ (c : Condition). 2 ^ (D + f c)) cs ≡ 2 ^ D * overConditions (λ (c : Condition). 2 ^ f c) cs
+unfolding total
+over-powers D f [] = omega arith
+over-powers D f (c ∷ cs) = omega (arith, over-powers D f cs, pow-add 2 D (f c))
 
 -- at most 445 gates for each digit
 pub size-within : (p : ℕ) (c : Condition) → 3 ≤ p → p % 2 ≡ 1 → p ≤ 251 → 1 ≤ c .digits → conditionSize p c ≤ 445 * c .digits

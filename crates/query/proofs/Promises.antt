@@ -1,16 +1,16 @@
 -- Demand 3: the promises of the table of every accepted card.
 -- The laws of tables by any lawful tests (`AnyTests`), which document 01's are, and the formulas of its own.
 -- Assumes nothing.
-use mathlib.Core.Path.{_≡_, refl, sym, ap, ap₂, _∙_}
+use mathlib.Core.Path.{_≡_, refl, sym, ap, ap₂, subst, _∙_}
 use mathlib.Core.Bool.{true}
-use mathlib.Core.List.{List, [], _++_, append-nil}
-use Prim.Native.Nat.{ℕ, suc, _-_, _*_, _%_, _^_, _≤_}
+use mathlib.Core.List.{List, [], _++_, map, map-map, append-nil}
+use Prim.Native.Nat.{ℕ, suc, _+_, _-_, _*_, _%_, _^_, _≤_, zero-le}
 use native.Mathlib.Omega.{arith}
-use native.Mathlib.Nat.{zero-add}
+use native.Mathlib.Nat.{le-refl}
 use borrow.Author.Tests.{ltb-false}
 use lib.Dec.{ltb}
 use lib.ListN.{length, length-append, drop}
-use Rattle.answer.specs.Outcome.{accepted, Outcome, unaltered}
+use Rattle.answer.specs.Outcome.{Answer, accepted, Outcome, unaltered}
 use Rattle.answer.specs.Report.{Report, costOf}
 use Rattle.answer.proofs.Outcome.{passed, accepted-same}
 use Rattle.field.specs.Logarithm.{clog}
@@ -24,14 +24,19 @@ use Rattle.circuit.specs.Depth.{depth}
 use Rattle.circuit.specs.Every.{Every}
 use Rattle.circuit.specs.Factors.{breadth}
 use Rattle.circuit.specs.Gate.{Gate}
-use Rattle.circuit.specs.Outcomes.{running}
+use Rattle.circuit.specs.Meaning.{output}
+use Rattle.circuit.specs.Outcomes.{trimming, running}
 use Rattle.circuit.specs.Report.{report}
-use Rattle.circuit.specs.Segment.{Segment}
+use Rattle.circuit.specs.Segment.{Node, Segment}
+use Rattle.circuit.specs.Sums.{largest}
 use Rattle.circuit.specs.Table.{Head, Table, tableBytes, wellFormed, mostGates}
+use Rattle.circuit.specs.TreePromises.{TwoLeast}
+use Rattle.circuit.specs.Value.{values}
 use Rattle.circuit.proofs.Count.{count-append, all-counted}
 use Rattle.circuit.proofs.Every.{every-map}
-use Rattle.circuit.proofs.ProductTree.{least-first, product-count}
+use Rattle.circuit.proofs.ProductTree.{least-first}
 use Rattle.circuit.proofs.Promises.{table-reads-back, checks-tables, trims-tables, runs-tables, run-accepts}
+use Rattle.circuit.proofs.Sums.{largest-plus}
 use Rattle.circuit.proofs.TreeDepth.{tree-depth}
 use Rattle.circuit.proofs.WellFormed.{is-well-formed}
 use Rattle.comparison.specs.Condition.{Condition}
@@ -40,17 +45,30 @@ use Rattle.comparison.specs.Lawful.{Lawful}
 use Rattle.comparison.specs.Tests.{baseTests}
 use Rattle.comparison.proofs.Condition.{order-cost, cost-within}
 use Rattle.comparison.proofs.Lawful.{base-lawful}
-use Rattle.query.specs.Card.{Card, slotsOf}
-use Rattle.query.specs.Formulas.{overConditions, gateCount, depthFormula, productCount, squareCount, costSum}
-use Rattle.query.specs.Outcomes.{tableRoom}
-use Rattle.query.specs.Promises.{gatesOf, RightAnswer, ExactDepth, OutputsAreLast, CardTree, CardOutput, NoShallowerTree, BoundedCost, ExactCost, ExactCounts, ExactSize, SameReport, ReportedNumbers, TrimsToTable, RunsTheTable, RightRun, SameRun, BuiltRun, Built, BuildsWithRoom, BuiltValue, BuiltDepth, BuiltCost}
+use Rattle.query.specs.Card.{Card, overConditions, slotsOf}
+use Rattle.query.specs.Form.{Form, Plain, Scored}
+use Rattle.query.specs.Formulas.{endSize, endProducts, gateCount, levelsAbove, depthFormula, productCount, squareCount, costSum}
+use Rattle.query.specs.Outcomes.{tableRoom, building}
+use Rattle.query.specs.Promises.{gatesOf, LeftSide, RightSide, ended, RightAnswer, ExactDepth, OutputsAreLast, CardTree, CardOutput, NoShallowerTree, BoundedCost, ExactCost, ExactCounts, ExactSize, SameReport, ReportedNumbers, TrimsToTable, RunsTheTable, RightRun, SameRun, BuiltRun, Built, BuildsWithRoom, BuiltValue, BuiltDepth, BuiltCost}
 use Rattle.query.specs.Reading.{readCard}
-use Rattle.query.specs.Whole.{Draft, begin, treeOf, filled, tableOf}
-use Rattle.query.proofs.AnyTests.{known, good, sound, outputs-length, some, output-last, gates-fit, depth-is, lawful-answer, lawful-depth}
+use Rattle.query.specs.Whole.{Draft, begin, endBy, filled, tableOf}
+use Rattle.query.proofs.AnyTests.{known, good, sound, outputs-length, some, output-last, depth-told, gates-fit, tree-ends, lawful-answer, lawful-depth}
 use Rattle.query.proofs.Building.{built}
 use Rattle.query.proofs.CardFacts.{Accepted}
-use Rattle.query.proofs.OverConditions.{over-mono, over-times, over-cost, over-some, size-within}
-use Rattle.query.proofs.Whole.{Good, Sound, all-length, all-last, all-counts, all-breadth}
+use Rattle.query.proofs.Ending.{end-counts}
+use Rattle.query.proofs.OverConditions.{over-mono, over-times, over-cost, over-some, over-powers, size-within}
+use Rattle.query.proofs.Whole.{Good, Sound, all-length, all-last, all-counts, all-depths}
+
+-- ---- what may come after the conditions
+
+-- a product each but one, or none
+products-most : (form : Form) (c : ℕ) → endProducts form c ≤ c - 1
+products-most Plain c = le-refl _
+products-most Scored c = zero-le
+
+end-most : (form : Form) (c : ℕ) → endSize form c ≤ 2 * c
+end-most Plain c = omega arith
+end-most Scored c = omega arith
 
 -- ---- document 01's table of an accepted card
 
@@ -82,16 +100,10 @@ module _ (bytes : List ℕ) (card : Card) (e : readCard bytes ≡ accepted card)
   abbrev draft : Draft
   draft = filled card
 
-  abbrev k : ℕ
-  k = length (draft .gates)
-
-  abbrev tree : Segment
-  tree = treeOf draft
-
   abbrev gates : List Gate
   gates = gatesOf card
 
-  -- ---- the draft and the tree
+  -- ---- the draft and the end
 
   abbrev draft-sound : Sound head draft
   draft-sound = sound bytes card e (baseTests p) law
@@ -99,34 +111,54 @@ module _ (bytes : List ℕ) (card : Card) (e : readCard bytes ≡ accepted card)
   abbrev draft-some : 1 ≤ length (draft .outputs)
   draft-some = some bytes card e (baseTests p) law
 
-  abbrev tree-output : suc (tree .output .gate) ≡ length gates
-  tree-output = output-last bytes card e (baseTests p) law
+  abbrev draft-length : length (draft .outputs) ≡ length (card .conditions)
+  draft-length = outputs-length bytes card e (baseTests p) law
 
-  abbrev tree-deep : depth gates ≡ clog (breadth (draft .outputs))
-  tree-deep = depth-is bytes card e (baseTests p) law
+  abbrev last-output : suc (ended card .output .gate) ≡ length gates
+  last-output = output-last bytes card e (baseTests p) law
 
   -- ---- depth
 
-  formula-depth : depth gates ≡ depthFormula card
-  unfolding total
-  formula-depth =
+  pub output-levels : map (λ (f : Node). f .depth) (draft .outputs) ≡ map (λ (c : Condition). clog (p - 1) + clog (c .digits)) (card .conditions)
+  output-levels = all-depths head three odd begin (card .conditions) conditions-good
+
+  wide : breadth (draft .outputs) ≡ 2 ^ clog (p - 1) * overConditions (λ (c : Condition). 2 ^ clog (c .digits)) (card .conditions)
+  wide =
+      let power : ℕ → ℕ = λ d. 2 ^ d in
+      ap total
+      (sym (map-map power (λ (f : Node). f .depth) (draft .outputs)) ∙ ap (map power) output-levels
+      ∙ map-map power (λ (c : Condition). clog (p - 1) + clog (c .digits)) (card .conditions))
+      ∙ over-powers (clog (p - 1)) (λ (c : Condition). clog (c .digits)) (card .conditions)
+
+  -- the node of the end tells the formula's depth
+  end-levels : (form : Form) → endBy form p (card .conditions) (length (draft .gates)) (draft .outputs) .output .depth ≡ clog (p - 1) + levelsAbove form (card .conditions)
+  end-levels Plain =
       let sum = overConditions (λ (c : Condition). 2 ^ clog (c .digits)) (card .conditions) in
-      let wide : breadth (draft .outputs) ≡ 2 ^ clog (p - 1) * sum = all-breadth head three odd begin (card .conditions) conditions-good ∙ zero-add _ in
       let some-sum = over-some (λ (c : Condition). clog (c .digits)) (card .conditions) (all .count .0) in
-      tree-deep ∙ ap clog wide ∙ clog-factor (clog (p - 1)) sum some-sum
+      tree-depth (length (draft .gates)) (draft .outputs) draft-some ∙ ap clog wide ∙ clog-factor (clog (p - 1)) sum some-sum
+  end-levels Scored =
+      ap largest output-levels ∙ largest-plus (clog (p - 1)) (λ (c : Condition). clog (c .digits)) (card .conditions) (all .count .0)
+
+  formula-depth : depth gates ≡ depthFormula card
+  formula-depth = sym (depth-told bytes card e (baseTests p) law) ∙ end-levels (card .form)
 
   -- ---- cost and size
+
+  pub end-has : (length (ended card .gates) ≡ endSize (card .form) (length (card .conditions)))
+      × (count isProduct (ended card .gates) ≡ endProducts (card .form) (length (card .conditions)))
+      × (count isSquare (ended card .gates) ≡ 0)
+  end-has = end-counts head (card .conditions) draft draft-sound draft-length (all .count .0) (card .form)
 
   formula-counts : (products gates ≡ productCount card) × (squares gates ≡ squareCount card)
   unfolding count
   formula-counts =
-      let own = product-count k (draft .outputs) draft-some (draft-sound .order) in
-      let conditions = all-counts head three odd begin (card .conditions) conditions-good in (
-        omega (arith, all-counted gates .0, count-append isProduct (draft .gates) (tree .gates), own .1, conditions .0, outputs-length bytes card e (baseTests p) law),
-        omega (arith, all-counted gates .1, count-append isSquare (draft .gates) (tree .gates), own .2, conditions .1),
+      let conditions = all-counts head three odd begin (card .conditions) conditions-good in
+      let later = ended card .gates in (
+        omega (arith, all-counted gates .0, count-append isProduct (draft .gates) later, end-has .1, conditions .0),
+        omega (arith, all-counted gates .1, count-append isSquare (draft .gates) later, end-has .2, conditions .1),
       )
 
-  -- so the cost is 100(c-1) and that of each condition
+  -- so the cost is that of the products of the end and that of each condition
   cost-is : cost (card .weight) gates ≡ costSum card
   cost-is =
       let s = card .weight in
@@ -141,13 +173,11 @@ module _ (bytes : List ℕ) (card : Card) (e : readCard bytes ≡ accepted card)
 
   formula-size : length gates ≡ gateCount card
   formula-size =
-      let count = product-count k (draft .outputs) draft-some (draft-sound .order) .0 in
       omega (
         arith,
-        length-append (draft .gates) (tree .gates),
-        count,
+        length-append (draft .gates) (ended card .gates),
+        end-has .0,
         all-length head three odd begin (card .conditions) conditions-good,
-        outputs-length bytes card e (baseTests p) law,
       )
 
   sizes-within : overConditions (conditionSize p) (card .conditions) ≤ overConditions (λ (c : Condition). 445 * c .digits) (card .conditions)
@@ -155,7 +185,7 @@ module _ (bytes : List ℕ) (card : Card) (e : readCard bytes ≡ accepted card)
       over-mono _ _ (card .conditions)
       (every-map (λ (c : Condition) h. size-within p c three odd (all .prime .high) (h .0)) (card .conditions) conditions-good)
 
-  -- c - 1 gates, and 445 for each of at most 16 digits
+  -- 2c - 1 gates at most, and 445 for each of at most 16 digits
   size-fits : length gates ≤ mostGates
   size-fits =
       omega (
@@ -165,6 +195,7 @@ module _ (bytes : List ℕ) (card : Card) (e : readCard bytes ≡ accepted card)
         over-times 445 (λ (c : Condition). c .digits) (card .conditions),
         all .slots .1,
         all .count .1,
+        end-most (card .form) (length (card .conditions)),
       )
 
   formed : wellFormed (tableOf card) ≡ true
@@ -173,14 +204,14 @@ module _ (bytes : List ℕ) (card : Card) (e : readCard bytes ≡ accepted card)
         prime = all .listed;
         weight = all .weightTest;
         slots = in-range-false N 1 mostDigits (all .slots .0) (all .slots .1);
-        count = in-range-false (length gates) 1 mostGates (omega (arith, tree-output)) size-fits;
+        count = in-range-false (length gates) 1 mostGates (omega (arith, last-output)) size-fits;
         fitted = gates-fit bytes card e (baseTests p) law;
       })
 
 -- ---- the promises
 
 pub right-answer : RightAnswer
-right-answer bytes left right card e l r = lawful-answer bytes left right card (baseTests (card .prime)) e (law bytes card e) l r
+right-answer bytes left right card e asks l r = lawful-answer bytes left right card (baseTests (card .prime)) e (law bytes card e) asks l r
 
 pub exact-depth : ExactDepth
 exact-depth bytes card e = formula-depth bytes card e
@@ -190,20 +221,20 @@ outputs-are-last bytes card e =
     all-last (tableOf card .head) (three bytes card e) (odd bytes card e) begin (card .conditions) (good bytes card e)
 
 pub card-tree : CardTree
-card-tree bytes card e =
-    least-first (length (filled card .gates)) (filled card .outputs) (draft-some bytes card e) (draft-sound bytes card e .order)
+card-tree bytes card e asks =
+    let tree = least-first (length (filled card .gates)) (filled card .outputs) (draft-some bytes card e) (draft-sound bytes card e .order) in
+    subst (λ (end : Segment). TwoLeast (length (filled card .gates)) (filled card .outputs) (end .gates) (end .output))
+    (sym (tree-ends bytes card e (baseTests (card .prime)) (law bytes card e) asks)) tree
 
 pub card-output : CardOutput
-card-output bytes card e = (
-  tree-output bytes card e,
-  tree-depth (length (filled card .gates)) (filled card .outputs) (draft-some bytes card e) ∙ sym (tree-deep bytes card e),
-)
+card-output bytes card e = (last-output bytes card e, depth-told bytes card e (baseTests (card .prime)) (law bytes card e))
 
 pub no-shallower-tree : NoShallowerTree
-no-shallower-tree bytes card tree e same = lawful-depth bytes card (baseTests (card .prime)) tree e (law bytes card e) same
+no-shallower-tree bytes card tree e asks same = lawful-depth bytes card (baseTests (card .prime)) tree e (law bytes card e) asks same
 
 pub bounded-cost : BoundedCost
-bounded-cost bytes card e = omega (arith, cost-is bytes card e, costs-within bytes card e)
+bounded-cost bytes card e =
+    omega (arith, cost-is bytes card e, costs-within bytes card e, products-most (card .form) (length (card .conditions)))
 
 pub exact-cost : ExactCost
 exact-cost bytes card e = (
@@ -243,14 +274,21 @@ pub runs-the-table : RunsTheTable
 runs-the-table bytes later left right work card e l r hl hr enough =
     ap (λ (o : Outcome ℕ). o .answer) (run-accepts (tableOf card) later left right work (formed bytes card e) l r hl hr enough)
 
-pub right-run : RightRun
-right-run bytes later left right work card e l r enough =
+-- digits are below p
+pub runs-digits : (bytes later left right work : List ℕ) (card : Card) → readCard bytes ≡ accepted card → LeftSide card left
+    → RightSide card right → length (gatesOf card) ≤ length work
+    → running (tableBytes (tableOf card) ++ later) left right work .answer
+    ≡ accepted (output (values (card .prime) left right) (gatesOf card))
+runs-digits bytes later left right work card e l r enough =
     let p = card .prime in
     let low : base p ≤ p = omega (arith, three bytes card e) in
     let hl = below-weaken (base p) p left low (l .1) in
     let hr = below-weaken (base p) p right low (r .1) in
     runs-the-table bytes later left right work card e (l .0) (r .0) hl hr enough
-    ∙ ap accepted (right-answer bytes left right card e l r)
+
+pub right-run : RightRun
+right-run bytes later left right work card e asks l r enough =
+    runs-digits bytes later left right work card e l r enough ∙ ap accepted (right-answer bytes left right card e asks l r)
 
 pub same-run : SameRun
 same-run bytes lent left right work card e room =
@@ -262,12 +300,19 @@ same-run bytes lent left right work card e room =
     runs-tables table later left right work (formed bytes card e) ∙ sym (runs-tables table [] left right work (formed bytes card e)) ∙ alone in
     (rw (built bytes lent card e room) (same (drop (tableRoom table) lent)), ap run (trims-to-table bytes lent card e room))
 
-pub built-run : BuiltRun
-built-run bytes lent left right work card e room l r enough =
-    let table = tableOf card in
+-- whatever Run answers of the table alone, it answers of what Build left, and of what Trim hands back of that
+pub runs-built : (bytes lent left right work : List ℕ) (card : Card) (answer : Answer ℕ) → readCard bytes ≡ accepted card
+    → tableRoom (tableOf card) ≤ length lent → running (tableBytes (tableOf card) ++ []) left right work .answer ≡ answer
+    → (running (building bytes lent .lent) left right work .answer ≡ answer)
+    × (running (trimming (building bytes lent .lent)) left right work .answer ≡ answer)
+runs-built bytes lent left right work card answer e room told =
     let both = same-run bytes lent left right work card e room in
-    let alone = ap (λ given. running given left right work .answer) (sym (append-nil (tableBytes table))) ∙ right-run bytes [] left right work card e l r enough in
+    let alone = ap (λ given. running given left right work .answer) (sym (append-nil (tableBytes (tableOf card)))) ∙ told in
     (ap (λ (o : Outcome ℕ). o .answer) (both .0) ∙ alone, ap (λ (o : Outcome ℕ). o .answer) (both .1) ∙ alone)
+
+pub built-run : BuiltRun
+built-run bytes lent left right work card e asks room l r enough =
+    runs-built bytes lent left right work card _ e room (right-run bytes [] left right work card e asks l r enough)
 
 -- ---- Build's outcome
 
@@ -278,7 +323,7 @@ builds-with-room bytes lent card e room =
     (e, ap (λ (o : Outcome Report). o .answer) b, rw b (table-reads-back table (drop (tableRoom table) lent) (formed bytes card e)))
 
 -- a report is answered only with room, and then it is that of the card's table, which the bytes left hold
-built-is : (bytes lent : List ℕ) (card : Card) (told : Report) (table : Table) → Built bytes lent card told table
+pub built-is : (bytes lent : List ℕ) (card : Card) (told : Report) (table : Table) → Built bytes lent card told table
     → (told ≡ report (tableOf card)) × (table ≡ tableOf card)
 built-is bytes lent card told table b =
     let e = b .0 in
@@ -289,12 +334,13 @@ built-is bytes lent card told table b =
     (accepted-same (sym (b .1) ∙ whole .1), accepted-same (sym (b .2) ∙ whole .2))
 
 pub built-value : BuiltValue
-built-value bytes lent left right card told table b l r = rw (built-is bytes lent card told table b .1) (right-answer bytes left right card (b .0) l r)
+built-value bytes lent left right card told table b asks l r =
+    rw (built-is bytes lent card told table b .1) (right-answer bytes left right card (b .0) asks l r)
 
 pub built-depth : BuiltDepth
 built-depth bytes lent card told table b =
     let same = built-is bytes lent card told table b in
-    rw (same .0, same .1) (refl, exact-depth bytes card (b .0), λ tree leaves. no-shallower-tree bytes card tree (b .0) leaves)
+    rw (same .0, same .1) (refl, exact-depth bytes card (b .0), λ tree asks leaves. no-shallower-tree bytes card tree (b .0) asks leaves)
 
 pub built-cost : BuiltCost
 built-cost bytes lent card told table b =

@@ -22,11 +22,12 @@ use Rattle.circuit.specs.Bytes.{byte, wrongMark}
 use Rattle.circuit.specs.Table.{wrongWeight}
 use Rattle.circuit.proofs.Reading.{mark-back, mark-is}
 use Rattle.comparison.specs.Condition.{Condition}
-use Rattle.comparison.specs.Relation.{Relation, Less, AtMost, Greater, AtLeast, Equal, NotEqual, relationNumber, relations}
-use Rattle.query.specs.Card.{Card, wrongConditionCount, slotsOf, conditionBytes, conditionsBytes, cardBytes, inSlots, keepsRules}
+use Rattle.comparison.specs.Relation.{Relation, relationNumber, relations}
+use Rattle.comparison.proofs.Relations.{relation-back}
+use Rattle.query.specs.Card.{Card, wrongConditionCount, slotsOf, totalWeight, wrongTotal, conditionBytes, conditionsBytes, cardBytes, inSlots, keepsRules}
 use Rattle.query.specs.CardPromises.{AcceptsCards, OnlyCards}
 use Rattle.query.specs.Form.{headSize, Form, headMarkOf, recordMarkOf, recordSize, formOf, tailBytes, keepsTail}
-use Rattle.query.specs.Reading.{readCondition, readConditions, readSlots, readFormed, readCard}
+use Rattle.query.specs.Reading.{readCondition, readConditions, readLimits, readFormed, readCard}
 use Rattle.query.proofs.Form.{form-back, form-marked, record-length, tail-back, Tail, tail-says}
 
 -- ---- the rules one by one
@@ -38,6 +39,7 @@ pub record Keeps (card : Card) : Type 0 where
   pub count : wrongConditionCount (length (card .conditions)) ≡ false
   pub placed : inSlots (card .form) (card .prime) 0 (card .conditions) ≡ true
   pub slots : ltb mostDigits (slotsOf (card .conditions)) ≡ false
+  pub weights : wrongTotal (card .form) (card .prime) (totalWeight (card .conditions)) ≡ false
 
 keeps : (card : Card) → keepsRules card ≡ true → Keeps card
 keeps card t =
@@ -45,16 +47,18 @@ keeps card t =
     let weight = both (not (wrongWeight (card .weight))) _ (prime .1) in
     let count = both (not (wrongConditionCount (length (card .conditions)))) _ (weight .1) in
     let placed = both (inSlots (card .form) (card .prime) 0 (card .conditions)) _ (count .1) in
+    let limits = both (not (ltb mostDigits (slotsOf (card .conditions)))) _ (placed .1) in
     record {
       prime = prime .0;
       weight = not-true _ (weight .0);
       count = not-true _ (count .0);
       placed = placed .0;
-      slots = not-true _ (placed .1);
+      slots = not-true _ (limits .0);
+      weights = not-true _ (limits .1);
     }
 
 keeps-rules : (card : Card) → Keeps card → keepsRules card ≡ true
-keeps-rules card k = rw (k .prime, k .weight, k .count, k .placed, k .slots)
+keeps-rules card k = rw (k .prime, k .weight, k .count, k .placed, k .slots, k .weights)
 
 -- of the first condition, where this slot is the next that is free, and of the others
 pub record Placed (form : Form) (p slot : ℕ) (c : Condition) (cs : List Condition) : Type 0 where
@@ -70,15 +74,6 @@ in-slots form p slot c cs t =
     record { count = not-true _ (count .0); tail = tail .0; later = tail .1 }
 
 -- ---- from a card to its bytes and back
-
--- the relation of its own number
-relation-back : (r : Relation) → numbered 8 (relationNumber r) relations ≡ accepted r
-relation-back Less = refl
-relation-back AtMost = refl
-relation-back Greater = refl
-relation-back AtLeast = refl
-relation-back Equal = refl
-relation-back NotEqual = refl
 
 module _ (form : Form) (p : ℕ) where
   read-condition : (slot : ℕ) (c : Condition) (cs : List Condition) (later : List ℕ) → Placed form p slot c cs
@@ -122,6 +117,7 @@ accepts-cards card t =
       size,
       read-conditions (card .form) (card .prime) 0 (card .conditions) (k .placed),
       k .slots,
+      k .weights,
     )
 
 -- ---- from bytes to a card
@@ -249,9 +245,10 @@ reads bytes card e =
     let spare = passed answer (not (eqb (byte bytes 5) 0)) (refused 5) _ refl (weight .1) in
     let count = passed answer (wrongConditionCount (byte bytes 4)) (refused 6) _ refl (spare .1) in
     let size = passed answer (not (eqb (length bytes) (headSize + recordSize form * byte bytes 4))) (refused 7) _ refl (count .1) in
-    let conditions = answered (readConditions form (byte bytes 2) 0 (byte bytes 4) (drop headSize bytes)) (readSlots form (byte bytes 2) (byte bytes 3)) (size .1) in
+    let conditions = answered (readConditions form (byte bytes 2) 0 (byte bytes 4) (drop headSize bytes)) (readLimits form (byte bytes 2) (byte bytes 3)) (size .1) in
     let slots = passed answer (ltb mostDigits (slotsOf (conditions .0))) (refused 10) _ refl (conditions .2) in
-    let same : record { form = form; prime = byte bytes 2; weight = byte bytes 3; conditions = conditions .0 } ≡ card = accepted-same (slots .1) in
+    let weights = passed answer (wrongTotal form (byte bytes 2) (totalWeight (conditions .0))) (refused 26) _ refl (slots .1) in
+    let same : record { form = form; prime = byte bytes 2; weight = byte bytes 3; conditions = conditions .0 } ≡ card = accepted-same (weights .1) in
     let placed = conditions-placed form (byte bytes 2) 0 (byte bytes 4) (drop headSize bytes) (conditions .0) (conditions .1) in
     rw (← same) (record {
       mark = mark-is (headMarkOf form) bytes (form-marked bytes form (found .1));
@@ -267,6 +264,7 @@ reads bytes card e =
         count = rw (placed .0) (count .0);
         placed = placed .1;
         slots = slots .0;
+        weights = weights .0;
       };
     })
 

@@ -4,11 +4,10 @@
 use mathlib.Core.Path.{_≡_, refl, sym, ap, ap₂, _∙_}
 use mathlib.Core.Bool.{true}
 use mathlib.Core.List.{List, [], _∷_, _++_, map, map-append, append-assoc, append-nil}
-use Prim.Native.Nat.{ℕ, suc, _+_, _-_, _*_, _%_, _^_, _≤_}
+use Prim.Native.Nat.{ℕ, suc, _+_, _-_, _%_, _≤_}
 use native.Mathlib.Omega.{arith}
 use native.Mathlib.Nat.{le-refl, zero-add}
 use lib.ListN.{length, length-append}
-use lib.Pow.{pow-add}
 use Rattle.field.specs.Logarithm.{clog}
 use Rattle.field.specs.Primes.{Prime}
 use Rattle.field.specs.Sum.{total}
@@ -16,7 +15,7 @@ use Rattle.digits.specs.Number.{base, allBelow}
 use Rattle.circuit.specs.Count.{isProduct, isSquare, count}
 use Rattle.circuit.specs.Depth.{depths}
 use Rattle.circuit.specs.Every.{Every}
-use Rattle.circuit.specs.Factors.{InOrder, breadth}
+use Rattle.circuit.specs.Factors.{InOrder}
 use Rattle.circuit.specs.Gate.{Gate}
 use Rattle.circuit.specs.Meaning.{Algebra, entryAt}
 use Rattle.circuit.specs.Segment.{Node}
@@ -28,7 +27,6 @@ use Rattle.circuit.proofs.Every.{every-map, every-map₂, every-append, map-sam
 use Rattle.circuit.proofs.Fitting.{fit-append}
 use Rattle.circuit.proofs.Meaning.{entries-kept}
 use Rattle.circuit.proofs.ProductTree.{left-over}
-use Rattle.circuit.proofs.Rearranged.{last-first, same-breadth}
 use Rattle.comparison.specs.Condition.{Condition, HasSlots}
 use Rattle.comparison.specs.Formulas.{conditionSize, conditionProducts, conditionSquares}
 use Rattle.comparison.specs.Lawful.{Lawful}
@@ -36,7 +34,8 @@ use Rattle.comparison.specs.Tests.{Tests, baseTests}
 use Rattle.comparison.specs.Writing.{conditionBy, conditionSegment}
 use Rattle.comparison.proofs.Condition.{output-is-last, condition-writes, condition-sized, condition-fits, condition-counts, condition-holds, condition-tells, condition-depth}
 use Rattle.comparison.proofs.Lawful.{base-lawful}
-use Rattle.query.specs.Formulas.{overConditions, lastGates}
+use Rattle.query.specs.Card.{overConditions}
+use Rattle.query.specs.Formulas.{lastGates}
 use Rattle.query.specs.Holds.{truths}
 use Rattle.query.specs.Whole.{Draft, begin, add, addAll}
 
@@ -199,18 +198,14 @@ module _ (head : Head) (three : 3 ≤ head .prime) (odd : head .prime % 2 ≡ 1)
         omega (arith, later .1, count-append isSquare (draft .gates) gates, here .1),
       )
 
-  pub all-breadth : (draft : Draft) (cs : List Condition) → Every (Good head) cs
-      → breadth (addAll tests prime draft cs .outputs)
-      ≡ breadth (draft .outputs) + 2 ^ clog (prime - 1) * overConditions (λ (c : Condition). 2 ^ clog (c .digits)) cs
-  unfolding addAll total
-  all-breadth draft [] good = omega arith
-  all-breadth draft (c ∷ cs) good =
+  pub all-depths : (draft : Draft) (cs : List Condition) → Every (Good head) cs
+      → map (λ (f : Node). f .depth) (addAll tests prime draft cs .outputs)
+      ≡ map (λ (f : Node). f .depth) (draft .outputs) ++ map (λ (c : Condition). clog (prime - 1) + clog (c .digits)) cs
+  unfolding addAll
+  all-depths draft [] good = sym (append-nil _)
+  all-depths draft (c ∷ cs) good =
+      let level : Node → ℕ = λ f. f .depth in
       let written = conditionSegment prime c (length (draft .gates)) in
       let here = condition-depth prime (length (draft .gates)) c at-least-two (good .0 .0) in
-      omega (
-        arith,
-        all-breadth (add tests prime draft c) cs (good .1),
-        same-breadth (last-first (draft .outputs) (written .output)),
-        ap (λ (d : ℕ). 2 ^ d) here,
-        pow-add 2 (clog (prime - 1)) (clog (c .digits)),
-      )
+      all-depths (add tests prime draft c) cs (good .1)
+      ∙ rw (map-append level (draft .outputs) (written .output ∷ []), here) (append-assoc (map level (draft .outputs)) _ _)

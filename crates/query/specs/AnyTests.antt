@@ -15,19 +15,26 @@ use Rattle.circuit.specs.Tree.{Tree, leaves, height}
 use Rattle.circuit.specs.Value.{values}
 use Rattle.comparison.specs.Lawful.{Lawful}
 use Rattle.comparison.specs.Tests.{Tests}
-use Rattle.query.specs.Card.{Card}
-use Rattle.query.specs.Holds.{allHold, truths}
+use Rattle.query.specs.Card.{Card, AsksYesOrNo, AsksScore}
+use Rattle.query.specs.Holds.{allHold, truths, scoreOf}
 use Rattle.query.specs.Promises.{LeftSide, RightSide}
 use Rattle.query.specs.Reading.{readCard}
 use Rattle.query.specs.Whole.{filledBy, tableBy}
 
--- the last gate is 1 exactly when all conditions hold of the two sides' numbers, and 0 otherwise
+-- of a card that asks for a yes or no the last gate is 1 exactly when all conditions hold of the two sides' numbers, and 0 otherwise
 abbrev pub LawfulAnswer : Type 0
 LawfulAnswer =
     (bytes left right : List ℕ) (card : Card) (t : Tests) → readCard bytes ≡ accepted card → Lawful (card .prime) t
-    → LeftSide card left → RightSide card right
+    → AsksYesOrNo card → LeftSide card left → RightSide card right
     → output (values (card .prime) left right) (tableBy t card .gates)
     ≡ bit (allHold (base (card .prime)) left right (card .conditions))
+
+-- of a card that asks for a score it is the sum of the weights of the conditions that hold
+abbrev pub LawfulScore : Type 0
+LawfulScore =
+    (bytes left right : List ℕ) (card : Card) (t : Tests) → readCard bytes ≡ accepted card → Lawful (card .prime) t
+    → AsksScore card → LeftSide card left → RightSide card right
+    → output (values (card .prime) left right) (tableBy t card .gates) ≡ scoreOf (base (card .prime)) left right (card .conditions)
 
 -- the conditions' outputs have, one by one, the values of their conditions' truths: 1 where the condition holds, and 0 otherwise
 abbrev pub LawfulOutputs : Type 0
@@ -43,9 +50,10 @@ LawfulFits =
     (bytes : List ℕ) (card : Card) (t : Tests) → readCard bytes ≡ accepted card → Lawful (card .prime) t
     → allFit (tableBy t card .head) 0 (tableBy t card .gates) ≡ true
 
--- every tree of two-way products over the same condition outputs, each used once, is at least as deep as the table
+-- of a card that asks for a yes or no every tree of two-way products over the same condition outputs, each used once,
+-- is at least as deep as the table
 abbrev pub LawfulDepth : Type 0
 LawfulDepth =
     (bytes : List ℕ) (card : Card) (t : Tests) (tree : Tree ℕ) → readCard bytes ≡ accepted card → Lawful (card .prime) t
-    → List·Permᴰ (leaves tree) (map (λ (f : Node). f .gate) (filledBy t card .outputs))
+    → AsksYesOrNo card → List·Permᴰ (leaves tree) (map (λ (f : Node). f .gate) (filledBy t card .outputs))
     → depth (tableBy t card .gates) ≤ height (entryAt depths (tableBy t card .gates)) tree

@@ -1,4 +1,4 @@
--- The order of Build's refusals (document 01, "Operations and what they turn away"),
+-- The order of Build's refusals (document 01, "Operations and what they turn away"; of score cards document 02, E1),
 -- on bytes that break every rule and are mended one rule at a time.
 -- Proved in `proofs/BuildOrder.antt`.
 use mathlib.Core.Path.{_≡_}
@@ -37,3 +37,37 @@ abbrev pub BuildOrder : Type 0
 BuildOrder =
     map (λ bytes. refusalIn (building bytes [] .answer)) brokenCards
     ≡ 1 ∷ 2 ∷ 3 ∷ 4 ∷ 5 ∷ 6 ∷ 7 ∷ 2 ∷ 8 ∷ 9 ∷ 2 ∷ 8 ∷ 9 ∷ 10 ∷ 11 ∷ []
+
+-- ---- score cards
+
+-- a good head of a score card of two conditions, p=3 and s=75
+abbrev twoScores : List ℕ → List ℕ
+twoScores records = (0xC5 ∷ 0x53 ∷ 3 ∷ 75 ∷ 2 ∷ 0 ∷ []) ++ records
+
+abbrev pub brokenScoreCards : List (List ℕ)
+brokenScoreCards =
+    (0xC5 ∷ 0x53 ∷ 9 ∷ 49 ∷ 9 ∷ 1 ∷ [])
+    ∷ (0xC5 ∷ 0x53 ∷ 3 ∷ 49 ∷ 9 ∷ 1 ∷ [])
+    ∷ (0xC5 ∷ 0x53 ∷ 3 ∷ 75 ∷ 9 ∷ 1 ∷ [])
+    ∷ (0xC5 ∷ 0x53 ∷ 3 ∷ 75 ∷ 9 ∷ 0 ∷ [])
+    ∷ twoScores (0xC5 ∷ 0x51 ∷ 7 ∷ 17 ∷ 0xC5 ∷ 0x51 ∷ 7 ∷ 17 ∷ [])
+    ∷ twoScores (0xC5 ∷ 0x51 ∷ 7 ∷ 17 ∷ 0 ∷ 1 ∷ 0xC5 ∷ 0x51 ∷ 7 ∷ 17 ∷ 3 ∷ 1 ∷ [])
+    ∷ twoScores (0xC5 ∷ 0x57 ∷ 7 ∷ 17 ∷ 0 ∷ 1 ∷ 0xC5 ∷ 0x51 ∷ 7 ∷ 17 ∷ 3 ∷ 1 ∷ [])
+    ∷ twoScores (0xC5 ∷ 0x57 ∷ 1 ∷ 17 ∷ 0 ∷ 1 ∷ 0xC5 ∷ 0x51 ∷ 7 ∷ 17 ∷ 3 ∷ 1 ∷ [])
+    ∷ twoScores (0xC5 ∷ 0x57 ∷ 1 ∷ 16 ∷ 0 ∷ 1 ∷ 0xC5 ∷ 0x51 ∷ 7 ∷ 17 ∷ 3 ∷ 1 ∷ [])
+    ∷ twoScores (0xC5 ∷ 0x57 ∷ 1 ∷ 16 ∷ 2 ∷ 1 ∷ 0xC5 ∷ 0x51 ∷ 7 ∷ 17 ∷ 3 ∷ 1 ∷ [])
+    ∷ twoScores (0xC5 ∷ 0x57 ∷ 1 ∷ 16 ∷ 2 ∷ 0 ∷ 0xC5 ∷ 0x51 ∷ 7 ∷ 17 ∷ 3 ∷ 1 ∷ [])
+    ∷ twoScores (0xC5 ∷ 0x57 ∷ 1 ∷ 16 ∷ 2 ∷ 0 ∷ 0xC5 ∷ 0x57 ∷ 7 ∷ 17 ∷ 3 ∷ 1 ∷ [])
+    ∷ twoScores (0xC5 ∷ 0x57 ∷ 1 ∷ 16 ∷ 2 ∷ 0 ∷ 0xC5 ∷ 0x57 ∷ 5 ∷ 17 ∷ 3 ∷ 1 ∷ [])
+    ∷ twoScores (0xC5 ∷ 0x57 ∷ 1 ∷ 16 ∷ 2 ∷ 0 ∷ 0xC5 ∷ 0x57 ∷ 5 ∷ 1 ∷ 3 ∷ 1 ∷ [])
+    ∷ twoScores (0xC5 ∷ 0x57 ∷ 1 ∷ 16 ∷ 2 ∷ 0 ∷ 0xC5 ∷ 0x57 ∷ 5 ∷ 1 ∷ 1 ∷ 1 ∷ [])
+    ∷ twoScores (0xC5 ∷ 0x57 ∷ 1 ∷ 16 ∷ 2 ∷ 0 ∷ 0xC5 ∷ 0x57 ∷ 5 ∷ 1 ∷ 1 ∷ 0 ∷ [])
+    ∷ twoScores (0xC5 ∷ 0x57 ∷ 1 ∷ 1 ∷ 2 ∷ 0 ∷ 0xC5 ∷ 0x57 ∷ 5 ∷ 1 ∷ 1 ∷ 0 ∷ [])
+    ∷ twoScores (0xC5 ∷ 0x57 ∷ 1 ∷ 1 ∷ 1 ∷ 0 ∷ 0xC5 ∷ 0x57 ∷ 5 ∷ 1 ∷ 1 ∷ 0 ∷ [])
+    ∷ []
+
+-- "25 .. after 9 for its record; 26 .. after 10. A spare that is not 0 gives 5, after 25, and the length rule 7 reads 6+6c here."
+abbrev pub ScoreOrder : Type 0
+ScoreOrder =
+    map (λ bytes. refusalIn (building bytes [] .answer)) brokenScoreCards
+    ≡ 3 ∷ 4 ∷ 5 ∷ 6 ∷ 7 ∷ 2 ∷ 8 ∷ 9 ∷ 25 ∷ 5 ∷ 2 ∷ 8 ∷ 9 ∷ 25 ∷ 5 ∷ 10 ∷ 26 ∷ 11 ∷ []

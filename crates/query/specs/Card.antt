@@ -1,8 +1,9 @@
--- Query cards: what a card says, its bytes, and the rules that it keeps (document 01, "Card").
+-- Query cards: what a card says, its bytes, and the rules that it keeps (document 01, "Card"; document 02, E1).
+use mathlib.Core.Path.{_≡_}
 use Prim.Native.Nat.{ℕ, _+_}
-use mathlib.Core.Bool.{Bool, true, not, _&&_, _||_}
+use mathlib.Core.Bool.{Bool, true, false, not, _&&_, _||_}
 use mathlib.Core.List.{List, [], _∷_, _++_, map}
-use lib.Dec.{ltb}
+use lib.Dec.{ltb, leb}
 use lib.ListN.{length}
 use Rattle.field.specs.Primes.{listed}
 use Rattle.field.specs.Sum.{total}
@@ -11,13 +12,20 @@ use Rattle.circuit.specs.Bytes.{marked}
 use Rattle.circuit.specs.Table.{wrongWeight}
 use Rattle.comparison.specs.Condition.{Condition}
 use Rattle.comparison.specs.Relation.{relationNumber}
-use Rattle.query.specs.Form.{Form, headMarkOf, recordMarkOf, tailBytes, keepsTail}
+use Rattle.query.specs.Form.{Form, isScored, headMarkOf, recordMarkOf, tailBytes, keepsTail}
 
 pub record Card : Type 0 where
   pub form : Form
   pub prime : ℕ
   pub weight : ℕ
   pub conditions : List Condition
+
+-- a card asks for a yes or no, or for a score
+abbrev pub AsksYesOrNo : Card → Type 0
+AsksYesOrNo card = isScored (card .form) ≡ false
+
+abbrev pub AsksScore : Card → Type 0
+AsksScore card = isScored (card .form) ≡ true
 
 -- "condition count c (1 to 8)"
 abbrev pub mostConditions : ℕ
@@ -26,11 +34,23 @@ mostConditions = 8
 abbrev pub wrongConditionCount : ℕ → Bool
 wrongConditionCount c = ltb c 1 || ltb mostConditions c
 
+-- the sum over the conditions
+abbrev pub overConditions : (Condition → ℕ) → List Condition → ℕ
+overConditions f conditions = total (map f conditions)
+
 -- "The digits of all conditions together, N"
 abbrev pub slotsOf : List Condition → ℕ
-slotsOf conditions = total (map (λ (c : Condition). c .digits) conditions)
+slotsOf conditions = overConditions (λ (c : Condition). c .digits) conditions
 
--- "4 bytes: mark 0xC5 0x51, relation, n", and what the form has after n
+-- "total weight"
+abbrev pub totalWeight : List Condition → ℕ
+totalWeight conditions = overConditions (λ (c : Condition). c .weight) conditions
+
+-- "26, total weight of p or more", of a card that asks for a score
+abbrev pub wrongTotal : Form → ℕ → ℕ → Bool
+wrongTotal form p weights = isScored form && leb p weights
+
+-- "mark .., relation, n", and what the form has after n
 abbrev pub conditionBytes : Form → Condition → List ℕ
 conditionBytes form c = marked (recordMarkOf form) (relationNumber (c .relation) ∷ c .digits ∷ tailBytes form c)
 
@@ -56,4 +76,6 @@ keepsRules card =
     listed (card .prime)
     && (not (wrongWeight (card .weight))
     && (not (wrongConditionCount (length (card .conditions)))
-    && (inSlots (card .form) (card .prime) 0 (card .conditions) && not (ltb mostDigits (slotsOf (card .conditions))))))
+    && (inSlots (card .form) (card .prime) 0 (card .conditions)
+    && (not (ltb mostDigits (slotsOf (card .conditions)))
+    && not (wrongTotal (card .form) (card .prime) (totalWeight (card .conditions)))))))

@@ -1,50 +1,62 @@
--- The formulas of a card: gates (document 01, "Whole card"), depth, products, squares and cost (demand 3).
+-- The formulas of a card: gates (document 01, "Whole card"), depth, products, squares and cost (demand 3; document 02, E1).
 use Prim.Native.Nat.{ℕ, _+_, _-_, _*_, _^_}
 use mathlib.Core.List.{List, [], _∷_, map}
 use lib.ListN.{length}
 use Rattle.answer.specs.Report.{Report}
 use Rattle.field.specs.Logarithm.{clog}
-use Rattle.field.specs.Sum.{total}
+use Rattle.circuit.specs.Sums.{largest}
 use Rattle.comparison.specs.Condition.{Condition}
 use Rattle.comparison.specs.Formulas.{conditionSize, conditionProducts, conditionSquares, conditionCost, costSummand}
-use Rattle.query.specs.Card.{Card}
+use Rattle.query.specs.Card.{Card, overConditions}
+use Rattle.query.specs.Form.{Form, Plain, Scored}
 
--- the sum over the conditions
-abbrev pub overConditions : (Condition → ℕ) → List Condition → ℕ
-overConditions f conditions = total (map f conditions)
+-- the gates after those of the c conditions: "plus c-1", the product tree's; of a score card a SCALE each, and an ADD each but the first
+abbrev pub endSize : Form → ℕ → ℕ
+endSize Plain c = c - 1
+endSize Scored c = 2 * c - 1
 
--- "plus c-1"
-abbrev pub conditionsLessOne : Card → ℕ
-conditionsLessOne card = length (card .conditions) - 1
+-- and how many of them are products: all of the product tree's; "there is no product tree"
+abbrev pub endProducts : Form → ℕ → ℕ
+endProducts Plain c = c - 1
+endProducts Scored c = 0
 
--- "Gates: .. plus c-1"
+-- "Gates: per order condition .., per equality condition ..", and those after them
 abbrev pub gateCount : Card → ℕ
-gateCount card = overConditions (conditionSize (card .prime)) (card .conditions) + conditionsLessOne card
+gateCount card =
+    overConditions (conditionSize (card .prime)) (card .conditions) + endSize (card .form) (length (card .conditions))
 
 -- the last gate of each condition, where the first of them is written from gate number k on
 unfoldable pub lastGates : ℕ → ℕ → List Condition → List ℕ
 lastGates p k [] = []
 lastGates p k (c ∷ cs) = (k + conditionSize p c - 1) ∷ lastGates p (k + conditionSize p c) cs
 
--- "ceil(log2(p-1)) + ceil(log2(the sum over the conditions of 2^ceil(log2 n)))"
-abbrev pub depthFormula : Card → ℕ
-depthFormula card = clog (card .prime - 1) + clog (overConditions (λ (c : Condition). 2 ^ clog (c .digits)) (card .conditions))
+-- "ceil(log2(the sum over the conditions of 2^ceil(log2 n)))"; of a score card "the largest ceil(log2 n)"
+abbrev pub levelsAbove : Form → List Condition → ℕ
+levelsAbove Plain conditions = clog (overConditions (λ (c : Condition). 2 ^ clog (c .digits)) conditions)
+levelsAbove Scored conditions = largest (map (λ (c : Condition). clog (c .digits)) conditions)
 
--- products: those of the conditions, and "plus c-1" of the product tree, which has no square
+-- "ceil(log2(p-1)) + .."; "D plus .."
+abbrev pub depthFormula : Card → ℕ
+depthFormula card = clog (card .prime - 1) + levelsAbove (card .form) (card .conditions)
+
+-- products: those of the conditions, and those after them, of which none is a square
 abbrev pub productCount : Card → ℕ
-productCount card = overConditions (conditionProducts (card .prime)) (card .conditions) + conditionsLessOne card
+productCount card =
+    overConditions (conditionProducts (card .prime)) (card .conditions) + endProducts (card .form) (length (card .conditions))
 
 abbrev pub squareCount : Card → ℕ
 squareCount card = overConditions (conditionSquares (card .prime)) (card .conditions)
 
--- "100(c-1)" and the cost of each condition
+-- "100(c-1)", or nothing of a score card, and the cost of each condition
 abbrev pub costSum : Card → ℕ
-costSum card = 100 * conditionsLessOne card + overConditions (conditionCost (card .prime) (card .weight)) (card .conditions)
+costSum card =
+    100 * endProducts (card .form) (length (card .conditions))
+    + overConditions (conditionCost (card .prime) (card .weight)) (card .conditions)
 
--- "100(c-1) plus, for each condition, n(50(p-3) + s(floor((p-1)/4)+1)) + 100(2n-2-floor(log2 n))"
+-- "100(c-1) plus, for each condition, n(50(p-3) + s(floor((p-1)/4)+1)) + 100(2n-2-floor(log2 n))"; "the cost claim covers both"
 abbrev pub costBound : Card → ℕ
 costBound card =
-    100 * conditionsLessOne card
+    100 * (length (card .conditions) - 1)
     + overConditions (λ (c : Condition). costSummand (card .prime) (card .weight) (c .digits)) (card .conditions)
 
 -- the five numbers from the card alone

@@ -1,7 +1,9 @@
--- To be believed by a reader of the promises: what a card says, the table that Build writes, what Build and Forecast answer, and demand 3.
+-- To be believed by a reader of the promises: what a card says, the table that Build writes, what Build and Forecast answer, demand 3,
+-- and the score.
 pub mod Form
 pub mod Card
 pub mod Reading
+pub mod Score
 pub mod Whole
 pub mod Outcomes
 pub mod Formulas
@@ -9,5 +11,6 @@ pub mod Holds
 pub mod CardPromises
 pub mod BuildOrder
 pub mod Promises
+pub mod ScorePromises
 pub mod AnyTests
 pub mod Bench

@@ -1,6 +1,7 @@
 -- Demand 3: what is proved of the table of every accepted card, whatever its p, s, c, and the relation and digit count of each condition.
 -- Document 01, "Whole card": "a card is accepted where none of Build's numbers but perhaps 11 turns it away",
--- so where `readCard` accepts its bytes.
+-- so where `readCard` accepts its bytes. Document 02, E1: "Plain cards keep the yes-or-no claim and demand 3's depth; score cards get
+-- the sum and this depth in their place, and the cost claim covers both." The sum is in `ScorePromises`.
 -- Proved in `proofs/Promises.antt`.
 use mathlib.Core.Path.{_≡_}
 use mathlib.Core.Bool.{true}
@@ -19,7 +20,7 @@ use Rattle.circuit.specs.Meaning.{entryAt, output}
 use Rattle.circuit.specs.Outcomes.{checking, trimming, running}
 use Rattle.circuit.specs.Reading.{reading}
 use Rattle.circuit.specs.Report.{report}
-use Rattle.circuit.specs.Segment.{Node}
+use Rattle.circuit.specs.Segment.{Node, Segment}
 use Rattle.circuit.specs.Table.{Table, leftSlots, rightSlots, tableBytes, wellFormed, mostGates}
 use Rattle.circuit.specs.Tree.{Tree, leaves, height}
 use Rattle.circuit.specs.TreePromises.{TwoLeast}
@@ -27,12 +28,12 @@ use Rattle.circuit.specs.Value.{values}
 use Rattle.comparison.specs.Condition.{Condition}
 use Rattle.comparison.specs.Formulas.{conditionCost, costSummand}
 use Rattle.comparison.specs.Relation.{isOrder}
-use Rattle.query.specs.Card.{Card}
+use Rattle.query.specs.Card.{Card, AsksYesOrNo}
 use Rattle.query.specs.Formulas.{gateCount, lastGates, depthFormula, productCount, squareCount, costSum, costBound, numbersOf}
 use Rattle.query.specs.Holds.{allHold}
 use Rattle.query.specs.Outcomes.{tableRoom, building, forecasting}
 use Rattle.query.specs.Reading.{readCard}
-use Rattle.query.specs.Whole.{treeOf, filled, tableOf}
+use Rattle.query.specs.Whole.{endOf, filled, tableOf}
 
 abbrev pub gatesOf : Card → List Gate
 gatesOf card = tableOf card .gates
@@ -52,10 +53,12 @@ RightSide card right = Side card (rightSlots (tableOf card .head)) right
 -- of the two sides' numbers, and 0 otherwise."
 abbrev pub RightAnswer : Type 0
 RightAnswer =
-    (bytes left right : List ℕ) (card : Card) → readCard bytes ≡ accepted card → LeftSide card left → RightSide card right
+    (bytes left right : List ℕ) (card : Card) → readCard bytes ≡ accepted card → AsksYesOrNo card
+    → LeftSide card left → RightSide card right
     → output (values (card .prime) left right) (gatesOf card) ≡ bit (allHold (base (card .prime)) left right (card .conditions))
 
--- b. "It is exactly ceil(log2(p-1)) + ceil(log2(the sum over the conditions of 2^ceil(log2 n)))."
+-- b. "It is exactly ceil(log2(p-1)) + ceil(log2(the sum over the conditions of 2^ceil(log2 n)))."; of a score card
+-- "Its depth is D plus the largest ceil(log2 n)."
 abbrev pub ExactDepth : Type 0
 ExactDepth = (bytes : List ℕ) (card : Card) → readCard bytes ≡ accepted card → depth (gatesOf card) ≡ depthFormula card
 
@@ -69,23 +72,29 @@ OutputsAreLast =
     (bytes : List ℕ) (card : Card) → readCard bytes ≡ accepted card
     → outputGates card ≡ lastGates (card .prime) 0 (card .conditions)
 
+-- what the table ends with, after the gates of the conditions
+abbrev pub ended : Card → Segment
+ended card = endOf card (filled card)
+
 -- "then the product tree over their outputs", by the rule for product trees
 abbrev pub CardTree : Type 0
 CardTree =
-    (bytes : List ℕ) (card : Card) → readCard bytes ≡ accepted card
-    → TwoLeast (length (filled card .gates)) (filled card .outputs) (treeOf (filled card) .gates) (treeOf (filled card) .output)
+    (bytes : List ℕ) (card : Card) → readCard bytes ≡ accepted card → AsksYesOrNo card
+    → TwoLeast (length (filled card .gates)) (filled card .outputs) (ended card .gates) (ended card .output)
 
--- the card's output, which the product tree over the condition outputs leaves, is the table's last gate, and its node tells the table's depth
+-- the card's output, which the product tree over the condition outputs or their sum leaves, is the table's last gate,
+-- and its node tells the table's depth
 abbrev pub CardOutput : Type 0
 CardOutput =
     (bytes : List ℕ) (card : Card) → readCard bytes ≡ accepted card
-    → (suc (treeOf (filled card) .output .gate) ≡ length (gatesOf card)) × (treeOf (filled card) .output .depth ≡ depth (gatesOf card))
+    → (suc (ended card .output .gate) ≡ length (gatesOf card)) × (ended card .output .depth ≡ depth (gatesOf card))
 
 -- c. "Every other tree of two-way products over the same condition outputs, each used once, is at least as deep as the table.":
 -- any tree whose leaves are all outputs, each once, in any order; a single output is as deep as its gate
 abbrev pub NoShallowerTree : Type 0
 NoShallowerTree =
-    (bytes : List ℕ) (card : Card) (tree : Tree ℕ) → readCard bytes ≡ accepted card → List·Permᴰ (leaves tree) (outputGates card)
+    (bytes : List ℕ) (card : Card) (tree : Tree ℕ) → readCard bytes ≡ accepted card → AsksYesOrNo card
+    → List·Permᴰ (leaves tree) (outputGates card)
     → depth (gatesOf card) ≤ height (entryAt depths (gatesOf card)) tree
 
 -- d. "The reported cost is 100 for each product of two different gates plus s for each square in the table.": that is `cost`.
@@ -99,7 +108,8 @@ abbrev pub OrderPart : Card → Condition → Type 0
 OrderPart card c =
     isOrder (c .relation) ≡ true → conditionCost (card .prime) (card .weight) c ≡ costSummand (card .prime) (card .weight) (c .digits)
 
--- the cost is that of the conditions and of the product tree, and of each order condition exactly the summand, whatever the others are
+-- the cost is that of the conditions and of the product tree, if there is one, and of each order condition exactly the summand,
+-- whatever the others are
 abbrev pub ExactCost : Type 0
 ExactCost =
     (bytes : List ℕ) (card : Card) → readCard bytes ≡ accepted card
@@ -111,7 +121,7 @@ ExactCounts =
     (bytes : List ℕ) (card : Card) → readCard bytes ≡ accepted card
     → (products (gatesOf card) ≡ productCount card) × (squares (gatesOf card) ≡ squareCount card)
 
--- e. the gates are as many as document 01's formula says, at most 8191, and the table keeps every rule
+-- e. the gates are as many as the formula says, at most 8191, and the table keeps every rule
 abbrev pub ExactSize : Type 0
 ExactSize =
     (bytes : List ℕ) (card : Card) → readCard bytes ≡ accepted card
@@ -147,10 +157,10 @@ RunsTheTable =
     → running (tableBytes (tableOf card) ++ later) left right work .answer
     ≡ accepted (output (values (card .prime) left right) (gatesOf card))
 
--- so with digits below (p+1)/2 it answers whether all conditions hold
+-- so with digits below (p+1)/2 it answers, of a card that asks for a yes or no, whether all conditions hold
 abbrev pub RightRun : Type 0
 RightRun =
-    (bytes later left right work : List ℕ) (card : Card) → readCard bytes ≡ accepted card
+    (bytes later left right work : List ℕ) (card : Card) → readCard bytes ≡ accepted card → AsksYesOrNo card
     → LeftSide card left → RightSide card right → length (gatesOf card) ≤ length work
     → running (tableBytes (tableOf card) ++ later) left right work .answer
     ≡ accepted (bit (allHold (base (card .prime)) left right (card .conditions)))
@@ -166,7 +176,8 @@ SameRun =
 -- so from the card's bytes to the yes or no: Build, then Run, with Trim between them or without
 abbrev pub BuiltRun : Type 0
 BuiltRun =
-    (bytes lent left right work : List ℕ) (card : Card) → readCard bytes ≡ accepted card → tableRoom (tableOf card) ≤ length lent
+    (bytes lent left right work : List ℕ) (card : Card) → readCard bytes ≡ accepted card → AsksYesOrNo card
+    → tableRoom (tableOf card) ≤ length lent
     → LeftSide card left → RightSide card right → length (gatesOf card) ≤ length work
     → let answer = accepted (bit (allHold (base (card .prime)) left right (card .conditions))) in
     (running (building bytes lent .lent) left right work .answer ≡ answer)
@@ -186,20 +197,22 @@ BuildsWithRoom =
     (bytes lent : List ℕ) (card : Card) → readCard bytes ≡ accepted card → tableRoom (tableOf card) ≤ length lent
     → Built bytes lent card (report (tableOf card)) (tableOf card)
 
--- the value of the last gate is 1 exactly when all conditions hold, and 0 otherwise
+-- of a card that asks for a yes or no the value of the last gate is 1 exactly when all conditions hold, and 0 otherwise
 abbrev pub BuiltValue : Type 0
 BuiltValue =
     (bytes lent left right : List ℕ) (card : Card) (told : Report) (table : Table) → Built bytes lent card told table
-    → LeftSide card left → RightSide card right
+    → AsksYesOrNo card → LeftSide card left → RightSide card right
     → output (values (card .prime) left right) (table .gates) ≡ bit (allHold (base (card .prime)) left right (card .conditions))
 
--- "The reported depth is the table's own. It is exactly ..", and every tree over the same outputs is at least as deep
+-- "The reported depth is the table's own. It is exactly ..", and every tree over the same outputs of a card that asks for a yes or no
+-- is at least as deep
 abbrev pub BuiltDepth : Type 0
 BuiltDepth =
     (bytes lent : List ℕ) (card : Card) (told : Report) (table : Table) → Built bytes lent card told table
     → (told .depth ≡ depth (table .gates))
     × (told .depth ≡ depthFormula card)
-    × ((tree : Tree ℕ) → List·Permᴰ (leaves tree) (outputGates card) → told .depth ≤ height (entryAt depths (table .gates)) tree)
+    × ((tree : Tree ℕ) → AsksYesOrNo card → List·Permᴰ (leaves tree) (outputGates card)
+    → told .depth ≤ height (entryAt depths (table .gates)) tree)
 
 -- "The reported cost is 100 for each product of two different gates plus s for each square in the table. It is at most .."
 abbrev pub BuiltCost : Type 0

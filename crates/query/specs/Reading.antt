@@ -1,5 +1,5 @@
 -- Reading a card's bytes: the card, or the number of the first rule that they break
--- (document 01, "Operations and what they turn away", Build's numbers 1 to 10).
+-- (document 01, "Operations and what they turn away", Build's numbers 1 to 10; document 02, E1, 25 and 26).
 use Prim.Native.Nat.{ℕ, zero, suc, _+_, _*_}
 use mathlib.Core.Bool.{not}
 use mathlib.Core.List.{List, [], _∷_}
@@ -12,7 +12,7 @@ use Rattle.circuit.specs.Bytes.{byte, wrongMark}
 use Rattle.circuit.specs.Table.{wrongWeight}
 use Rattle.comparison.specs.Condition.{Condition}
 use Rattle.comparison.specs.Relation.{Relation, relations}
-use Rattle.query.specs.Card.{Card, wrongConditionCount, slotsOf}
+use Rattle.query.specs.Card.{Card, wrongConditionCount, slotsOf, totalWeight, wrongTotal}
 use Rattle.query.specs.Form.{headSize, Form, recordMarkOf, recordSize, formOf, readTail}
 
 -- "9 n", then the rules of the form, if it adds any
@@ -32,15 +32,18 @@ readConditions form p slot (suc count) bytes =
     onAnswer (readCondition form p slot bytes) refused (λ c.
     onAnswer (readConditions form p (slot + c .digits) count (drop (recordSize form) bytes)) refused (λ cs. accepted (c ∷ cs)))
 
--- "then 10 N over 16", or what was read
-abbrev pub withinSlots : {A : Type 0} → ℕ → A → Answer A
-withinSlots slots read = refuse (ltb mostDigits slots) (refused 10) (accepted read)
+-- "then 10 N over 16"; "26, total weight of p or more, after 10"; or what was read
+abbrev pub withinLimits : {A : Type 0} → Form → ℕ → ℕ → ℕ → A → Answer A
+withinLimits form p slots weights read =
+    refuse (ltb mostDigits slots) (refused 10) (refuse (wrongTotal form p weights) (refused 26) (accepted read))
 
-abbrev pub readSlots : Form → ℕ → ℕ → List Condition → Answer Card
-readSlots form p s conditions =
-    withinSlots (slotsOf conditions) (record { form = form; prime = p; weight = s; conditions = conditions })
+abbrev pub readLimits : Form → ℕ → ℕ → List Condition → Answer Card
+readLimits form p s conditions =
+    withinLimits form p (slotsOf conditions) (totalWeight conditions)
+    (record { form = form; prime = p; weight = s; conditions = conditions })
 
--- "3 p not listed; 4 s; 5 spare not 0; 6 c; 7 length not 6+4c; then by condition": a card whose form is known, and so its records' size
+-- "3 p not listed; 4 s; 5 spare not 0; 6 c; 7 length not 6+4c; then by condition": a card whose form is known, and so its records' size;
+-- "the length rule 7 reads 6+6c" in a score card
 abbrev pub readFormed : Form → List ℕ → Answer Card
 readFormed form bytes =
     let p = byte bytes 2 in
@@ -50,7 +53,7 @@ readFormed form bytes =
     (refuse (not (eqb (byte bytes 5) 0)) (refused 5)
     (refuse (wrongConditionCount count) (refused 6)
     (refuse (not (eqb (length bytes) (headSize + recordSize form * count))) (refused 7)
-    (onAnswer (readConditions form p 0 count (drop headSize bytes)) refused (readSlots form p (byte bytes 3)))))))
+    (onAnswer (readConditions form p 0 count (drop headSize bytes)) refused (readLimits form p (byte bytes 3)))))))
 
 -- "1 card under 6 bytes; 2 head mark", then what its form asks
 abbrev pub readCard : List ℕ → Answer Card

@@ -1,5 +1,5 @@
--- The table of a card (document 01, "Whole card"): "Conditions in order, then the product tree over their outputs."
--- It is begun, filled in condition by condition, and finished.
+-- The table of a card (document 01, "Whole card"): "Conditions in order, then the product tree over their outputs.",
+-- or their score (document 02, E1). It is begun, filled in condition by condition, and finished.
 use Prim.Native.Nat.{ℕ}
 use mathlib.Core.List.{List, [], _∷_, _++_}
 use lib.ListN.{length}
@@ -11,6 +11,8 @@ use Rattle.comparison.specs.Condition.{Condition}
 use Rattle.comparison.specs.Tests.{Tests, baseTests}
 use Rattle.comparison.specs.Writing.{conditionBy}
 use Rattle.query.specs.Card.{Card, slotsOf}
+use Rattle.query.specs.Form.{Form, Plain, Scored}
+use Rattle.query.specs.Score.{scoreSum}
 
 -- the gates written so far, and the output of each condition
 pub record Draft : Type 0 where
@@ -34,12 +36,18 @@ addAll t p draft (c ∷ cs) = addAll t p (add t p draft c) cs
 abbrev pub draftOf : Tests → ℕ → List Condition → Draft
 draftOf t p conditions = addAll t p begin conditions
 
--- the product tree over the outputs, from the next free gate number on
-abbrev pub treeOf : Draft → Segment
-treeOf draft = productTree (length (draft .gates)) (draft .outputs)
+-- "then the product tree over their outputs"; of a score card "After all conditions' gates, each condition's output is scaled ..;
+-- there is no product tree.": by the form, over the outputs of these conditions, from gate number k on
+abbrev pub endBy : Form → ℕ → List Condition → ℕ → List Node → Segment
+endBy Plain p conditions k outputs = productTree k outputs
+endBy Scored p conditions k outputs = scoreSum p conditions k outputs
 
-abbrev pub finish : Draft → List Gate
-finish draft = draft .gates ++ treeOf draft .gates
+-- from the next free gate number on
+abbrev pub endOf : Card → Draft → Segment
+endOf card draft = endBy (card .form) (card .prime) (card .conditions) (length (draft .gates)) (draft .outputs)
+
+abbrev pub finish : Card → Draft → List Gate
+finish card draft = draft .gates ++ endOf card draft .gates
 
 -- a card with all its conditions added
 abbrev pub filledBy : Tests → Card → Draft
@@ -49,7 +57,7 @@ filledBy t card = draftOf t (card .prime) (card .conditions)
 abbrev pub tableBy : Tests → Card → Table
 tableBy t card = record {
   head = record { prime = card .prime; weight = card .weight; slots = slotsOf (card .conditions) };
-  gates = finish (filledBy t card);
+  gates = finish card (filledBy t card);
 }
 
 -- by document 01's tests

@@ -4,12 +4,13 @@
 use mathlib.Core.Path.{_≡_, refl, sym, ap, ap₂, _∙_}
 use mathlib.Core.Bool.{Bool, true, false}
 use mathlib.Core.List.{List, [], _∷_, _++_}
-use Prim.Native.Nat.{ℕ, zero, suc, _-_, _≤_, _<_, suc-le-suc}
+use Prim.Native.Nat.{ℕ, zero, suc, _+_, _-_, _≤_, _<_, suc-le-suc}
 use native.Mathlib.Omega.{arith}
 use native.Mathlib.Nat.{suc-inj, le-of-suc-le-suc}
+use native.Mathlib.Numerals.{add-one}
 use borrow.Author.Tests.{le-leb, lt-leb}
 use lib.ListN.{length, getD, take, drop, set, length-append, length-drop}
-use lib.Seq.{length-take-le, take-at, take-suc-set}
+use lib.Seq.{length-take-le, take-at, take-suc-set, getD-take}
 use Rattle.circuit.specs.Every.{Every}
 use Rattle.circuit.specs.ProductTree.{Choice, goesFirst, pick, least, choose}
 use Rattle.circuit.specs.Segment.{Node}
@@ -112,6 +113,27 @@ pub gap-closed : (list list′ : List ℕ) (n place : ℕ) → place < n → n �
     → take (n - 1) list′ ≡ without place (take n list)
 gap-closed list list′ n place l h e =
     ap (take (n - 1)) e ∙ take-at (without place (take n list)) (drop (n - 1) list) (n - 1) (length-without list n place l h)
+
+-- ---- one factor
+
+-- the one at a place, and those after it
+node-cons : (k : ℕ) (gates depths : List ℕ) → k < length gates → k < length depths
+    → drop k (nodes gates depths) ≡ record { gate = getD gates k 0; depth = getD depths k 0 } ∷ drop (suc k) (nodes gates depths)
+unfolding nodes
+node-cons k [] depths lg ld = absurd (omega arith)
+node-cons k (g ∷ gates) [] lg ld = absurd (omega arith)
+node-cons zero (g ∷ gates) (d ∷ depths) lg ld = refl
+node-cons (suc k) (g ∷ gates) (d ∷ depths) lg ld = node-cons k gates depths (le-of-suc-le-suc lg) (le-of-suc-le-suc ld)
+
+-- among the first n
+pub node-at : (n k : ℕ) (gates depths : List ℕ) → k < n → n ≤ length gates → n ≤ length depths
+    → drop k (nodes (take n gates) (take n depths))
+    ≡ record { gate = getD gates k 0; depth = getD depths k 0 } ∷ drop (k + 1) (nodes (take n gates) (take n depths))
+node-at n k gates depths l lg ld =
+    let g = length-take-le n gates lg in
+    let d = length-take-le n depths ld in
+    node-cons k (take n gates) (take n depths) (omega arith) (omega arith)
+    ∙ rw (getD-take n gates k 0 l, getD-take n depths k 0 l, ← add-one k)
 
 -- ---- the first and the last factor
 

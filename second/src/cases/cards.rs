@@ -1,4 +1,4 @@
-//! Cards: what Forecast and Build answer and turn away.
+//! Plain cards: what Forecast and Build answer and turn away.
 
 use super::writer::Script;
 use super::BENCH;
@@ -76,7 +76,7 @@ fn borders_of_the_document(script: &mut Script) {
 }
 
 /// Forecast, and Build with no byte and with a few shown ones.
-fn both(script: &mut Script, card: &[u8]) {
+pub fn both(script: &mut Script, card: &[u8]) {
     script.forecast(card);
     script.build(0, card);
     script.build(20, card);
@@ -109,7 +109,8 @@ fn card_mended_one_rule_at_a_time(script: &mut Script) {
     script.build(8 * gates + 7, &card);
 }
 
-fn mend(script: &mut Script, card: &mut [u8], bytes: &[(usize, u8)]) {
+/// Puts each byte in its place in turn, and asks both each time.
+pub fn mend(script: &mut Script, card: &mut [u8], bytes: &[(usize, u8)]) {
     for &(place, byte) in bytes {
         card[place] = byte;
         both(script, card);

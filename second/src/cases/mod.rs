@@ -4,6 +4,8 @@ mod cards;
 mod coding;
 mod relations;
 mod runs;
+mod score_cards;
+mod score_runs;
 mod tables;
 mod writer;
 
@@ -12,12 +14,16 @@ use writer::Script;
 /// The card of "Bench cards": p=3, s=75, one "<" of 1.
 const BENCH: [u8; 10] = [0xC5, 0x48, 0x03, 0x4B, 1, 0, 0xC5, 0x51, 1, 1];
 
+/// The same card as a score card, with a weight of 1.
+const SCORE_BENCH: [u8; 12] = [0xC5, 0x53, 0x03, 0x4B, 1, 0, 0xC5, 0x57, 1, 1, 1, 0];
+
 /// The primes at which each relation is tried.
 const SOME_PRIMES: [u8; 9] = [3, 5, 7, 11, 13, 17, 31, 127, 251];
 
 const RELATIONS: [u8; 6] = [1, 2, 3, 4, 5, 6];
 
-/// The case script: the same text each time.
+/// The case script: the same text each time. Score cards come last, and what
+/// the lines before them answer does not hang on what they leave in the areas.
 pub fn cases() -> String {
     let mut script = Script::new();
     cards::write(&mut script);
@@ -26,5 +32,7 @@ pub fn cases() -> String {
     relations::write(&mut script);
     coding::write(&mut script);
     tables::longest(&mut script);
+    score_cards::write(&mut script);
+    score_runs::write(&mut script);
     script.finish()
 }

@@ -78,6 +78,12 @@ enum-told-23 c = search needs
 enum-told-24 : tie.Need-enum-told-24
 enum-told-24 c = search needs
 
+enum-told-25 : tie.Need-enum-told-25
+enum-told-25 c = search needs
+
+enum-told-26 : tie.Need-enum-told-26
+enum-told-26 c = search needs
+
 returns : tie.Need-returns
 returns c = ap refusalNumber (sym (c .enum-told .given .1))
 
@@ -150,6 +156,12 @@ returns-23 c = ap refusalNumber (sym (c .enum-told23 .given .1))
 returns-24 : tie.Need-returns-24
 returns-24 c = ap refusalNumber (sym (c .enum-told24 .given .1))
 
+returns-25 : tie.Need-returns-25
+returns-25 c = ap refusalNumber (sym (c .enum-told25 .given .1))
+
+returns-26 : tie.Need-returns-26
+returns-26 c = ap refusalNumber (sym (c .enum-told26 .given .1))
+
 pub refusal-number-spec : {M : Type 1} → statement M
 refusal-number-spec =
     tie.close
@@ -178,6 +190,8 @@ refusal-number-spec =
     enum-told-22
     enum-told-23
     enum-told-24
+    enum-told-25
+    enum-told-26
     returns
     returns-2
     returns-3
@@ -201,4 +215,6 @@ refusal-number-spec =
     returns-21
     returns-22
     returns-23
-    returns-24)
+    returns-24
+    returns-25
+    returns-26)

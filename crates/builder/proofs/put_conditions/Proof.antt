@@ -7,7 +7,7 @@ use native.Mathlib.Omega.{arith}
 use borrow.Author.Needs.{needs}
 use lib.ListN.{length, take, length-set}
 use Rattle.digits.specs.Number.{mostDigits}
-use Rattle.comparison.specs.Condition.{Condition, HasSlots}
+use Rattle.comparison.specs.Condition.{Condition, unweighed, HasSlots}
 use Rattle.comparison.specs.Writing.{conditionSegment}
 use Rattle.query.specs.Card.{mostConditions}
 use Rattle.card.specs.Conditions.{conditionsOf}
@@ -73,7 +73,7 @@ fit : (r : tie.After-record-at Inv-loop μ-loop) → (
     let l = turn r in
     let s = start (begun l) in
     let p = s .args .head .prime in
-    l .loop .pen .next + length (conditionSegment p (condition r) (l .loop .pen .next) .gates) ≤ length (drafted p (conditionsOf (s .args .card .now)) .gates)
+    l .loop .pen .next + length (conditionSegment p (unweighed (condition r)) (l .loop .pen .next) .gates) ≤ length (drafted p (conditionsOf (s .args .card .now)) .gates)
     )
 fit r = fits _ _ _ _ _ _ _ _ _ (turn r .loop .inv .0) (r .record-at .result) (r .record-at .ensures)
 

@@ -1,4 +1,4 @@
--- `card::read_conditions` meets its contract. The invariant is `Sums`: the digits of the k records read so far,
+-- `card::read_conditions` meets its contract. The invariant is `AddsUp`: the digits and weights of the k records read so far,
 -- with those of the records that are left to read, give the whole answer. The measure is what is left of count.
 -- Assumes nothing.
 use mathlib.Core.Path.{sym, ap, _∙_}
@@ -7,17 +7,17 @@ use native.Mathlib.Omega.{arith}
 use borrow.Author.Needs.{needs}
 use lib.ListN.{length}
 use Rattle.circuit.proofs.Records.{lent-whole}
-use Rattle.card.specs.Parts.{formIs, recordIs, recordAnswer, readSlotCount}
-use Rattle.card.proofs.Conditions.{Sums, starts, finishes, refuses, adds, record-within}
+use Rattle.card.specs.Parts.{formIs, recordIs, recordAnswer, readSums}
+use Rattle.card.proofs.Conditions.{AddsUp, starts, finishes, refuses, adds, record-within}
 use Rattle.card.proofs.read_conditions.Statement.{statement}
 use Rattle.card.proofs.read_conditions.Tie as tie
 
 abbrev Inv-loop : tie.InvT-loop
-Inv-loop records form prime count size slots₀ k₀ slots k =
-    Sums (formIs form) prime records count k slots (readSlotCount (formIs form) prime count records)
+Inv-loop records form prime count size slots₀ weights₀ k₀ slots weights k =
+    AddsUp (formIs form) prime records count k slots weights (readSums (formIs form) prime count records)
 
 abbrev μ-loop : tie.MeasureT-loop
-μ-loop records form prime count size slots₀ k₀ slots k = count - k
+μ-loop records form prime count size slots₀ weights₀ k₀ slots weights k = count - k
 
 -- where the function began
 abbrev start : tie.At-loop Inv-loop μ-loop → tie.Start Inv-loop μ-loop
@@ -61,24 +61,35 @@ read-record-requires c κs =
 enum-known-condition : tie.Need-enum-known-condition Inv-loop μ-loop
 enum-known-condition c = search needs
 
--- what is known once the record's digits are added
+-- what is known once the record's digits and weight are added
 after : (c : tie.After-known-told Inv-loop μ-loop) → (
     let r = c .before .before .before in
     let l = r .before .before .before in
     let a = start l .args in
-    Inv-loop (a .records .now) (a .form) (a .prime) (a .count) (l .before .record-size .result) 0 0
-    (l .loop .slots + c .before .condition .given .0 .0 .digits) (l .loop .k + 1)
+    let own = c .before .condition .given .0 .0 in
+    Inv-loop (a .records .now) (a .form) (a .prime) (a .count) (l .before .record-size .result) 0 0 0
+    (l .loop .slots + own .digits) (l .loop .weights + own .weight) (l .loop .k + 1)
     )
 after c =
     let r = c .before .before .before in
     let l = r .before .before .before in
-    adds _ _ _ _ _ _ _ _ (l .before .record-size .ensures) (r .before .before .loop-test .taken) (l .loop .inv)
+    adds _ _ _ _ _ _ _ _ _ (l .before .record-size .ensures) (r .before .before .loop-test .taken) (l .loop .inv)
     (recordIs (c .before .condition .given .0 .0)) (sym (ap recordAnswer (c .before .condition .given .1)) ∙ r .read-record .ensures)
+    (omega (arith, c .known-told .given))
 
 add-slots : tie.Need-add-slots Inv-loop μ-loop
 add-slots c =
     let told = after (c .before) in
     let l = c .before .before .before .before .before .before .before in
+    omega (arith, told .few, told .most, start l .pre .0)
+
+cast-weights : tie.Need-cast-weights Inv-loop μ-loop
+cast-weights c = search needs
+
+add-weights : tie.Need-add-weights Inv-loop μ-loop
+add-weights c =
+    let told = after (c .before .before) in
+    let l = c .before .before .before .before .before .before .before .before in
     omega (arith, told .few, told .most, start l .pre .0)
 
 enum-known-why : tie.Need-enum-known-why Inv-loop μ-loop
@@ -88,7 +99,7 @@ returns : tie.Need-returns Inv-loop μ-loop
 returns c =
     let r = c .before .before .before in
     let l = r .before .before .before in
-    refuses _ _ _ _ _ _ _ _ (l .before .record-size .ensures) (r .before .before .loop-test .taken) (l .loop .inv) _
+    refuses _ _ _ _ _ _ _ _ _ (l .before .record-size .ensures) (r .before .before .loop-test .taken) (l .loop .inv) _
     (sym (ap recordAnswer (c .before .why .given .1)) ∙ r .read-record .ensures)
 
 add-k : tie.Need-add-k Inv-loop μ-loop
@@ -98,10 +109,10 @@ loop-less : tie.Need-loop-less Inv-loop μ-loop
 loop-less c = search needs
 
 loop-again : tie.Need-loop-again Inv-loop μ-loop
-loop-again c = after (c .before)
+loop-again c = after (c .before .before)
 
 returns-2 : tie.Need-returns-2 Inv-loop μ-loop
-returns-2 c = finishes _ _ _ _ _ _ _ (c .loop-test .left) (c .before .loop .inv)
+returns-2 c = finishes _ _ _ _ _ _ _ _ (c .loop-test .left) (c .before .loop .inv)
 
 pub read-conditions-spec : {M : Type 1} → statement M
 read-conditions-spec =
@@ -118,6 +129,8 @@ read-conditions-spec =
     read-record-requires
     enum-known-condition
     add-slots
+    cast-weights
+    add-weights
     enum-known-why
     returns
     add-k

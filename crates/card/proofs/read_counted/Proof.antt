@@ -1,13 +1,14 @@
--- `card::read_counted` meets its contract: the test says whether the digit count is wrong; there is one form, so it is known.
+-- `card::read_counted` meets its contract: the test says whether the digit count is wrong; in each arm of the match the form is known.
 -- Assumes nothing.
 use mathlib.Core.Path.{_≡_, sym, ap, _∙_}
 use native.Mathlib.Omega.{arith}
 use borrow.Author.Needs.{needs}
 use Rattle.digits.specs.Number.{wrongCount}
 use Rattle.circuit.specs.Bytes.{byte}
+use Rattle.query.specs.Form.{recordSize}
 use Rattle.query.proofs.Form.{record-least}
+use Rattle.card.specs.declared.Form.{Form}
 use Rattle.card.specs.Parts.{formIs}
-use Rattle.card.proofs.Forms.{is-plain}
 use Rattle.card.proofs.read_counted.Statement.{statement}
 use Rattle.card.proofs.read_counted.Tie as tie
 
@@ -27,9 +28,35 @@ wrong c = ap wrongCount (sym (c .before .wide .ensures .0)) ∙ sym (c .outside 
 returns : tie.Need-returns
 returns c = rw (wrong (c .before) ∙ c .if1 .taken)
 
+enum-told : tie.Need-enum-told
+enum-told c = search needs
+
+enum-told-2 : tie.Need-enum-told-2
+enum-told-2 c = search needs
+
+read-weighed-requires : tie.Need-read-weighed-requires
+read-weighed-requires c κs =
+    let s = c .before .before .before .before .before .before .before in
+    omega (arith, s .pre, ap (λ (f : Form). recordSize (formIs f)) (c .enum-told2 .given .1))
+
 returns-2 : tie.Need-returns-2
-returns-2 c = rw (wrong (c .before) ∙ c .if1 .left, is-plain (c .before .before .before .before .before .args .form))
+returns-2 c =
+    let e = c .before .before in rw (wrong (e .before) ∙ e .if1 .left, c .enum-told .given .1)
+
+returns-3 : tie.Need-returns-3
+returns-3 c =
+    let e = c .before .before .before in rw (wrong (e .before) ∙ e .if1 .left, c .before .enum-told2 .given .1) (c .read-weighed .ensures)
 
 pub read-counted-spec : {M : Type 1} → statement M
 read-counted-spec =
-    tie.close (tie.spec shared-slice-read-digits wide-requires outside-requires returns returns-2)
+    tie.close
+    (tie.spec
+    shared-slice-read-digits
+    wide-requires
+    outside-requires
+    returns
+    enum-told
+    enum-told-2
+    read-weighed-requires
+    returns-2
+    returns-3)

@@ -17,8 +17,8 @@ use Rattle.circuit.specs.Table.{wrongWeight}
 use Rattle.query.specs.Card.{mostConditions, wrongConditionCount}
 use Rattle.query.specs.Form as query
 use Rattle.query.proofs.Form.{record-most}
-use Rattle.card.specs.Parts.{formIs, slotsAnswer, readSlotCount, readFormedSummary}
-use Rattle.card.proofs.Summary.{telling, records-lent, told-refused, told-slots}
+use Rattle.card.specs.Parts.{formIs, sumsAnswer, readSums, readFormedSummary}
+use Rattle.card.proofs.Summary.{telling, records-lent, told-refused, told-sums}
 use Rattle.card.proofs.read_formed.Statement.{statement}
 use Rattle.card.proofs.read_formed.Tie as tie
 
@@ -189,11 +189,11 @@ read-conditions-requires c κs =
     rw (c .wide5 .ensures .0, records-lent)
     (in-range _ 1 mostConditions (counted (e .before .before .before) .1) .1, rw length-drop (omega (arith, size e)))
 
-enum-known-slots : tie.Need-enum-known-slots
-enum-known-slots c = search needs
+enum-known-sums : tie.Need-enum-known-sums
+enum-known-sums c = search needs
 
-limit-slots-requires : tie.Need-limit-slots-requires
-limit-slots-requires c κs = search needs
+limit-sums-requires : tie.Need-limit-sums-requires
+limit-sums-requires c κs = search needs
 
 enum-known-why : tie.Need-enum-known-why
 enum-known-why c = search needs
@@ -212,20 +212,20 @@ tells c =
 -- what was read of the records
 read : (c : tie.After-read-conditions) → (
     let s = start₅ (c .before .before .before) in
-    slotsAnswer (c .read-conditions .result) ≡ readSlotCount (form s) (byte (bytes s) 2) (byte (bytes s) 4) (drop 6 (bytes s))
+    sumsAnswer (c .read-conditions .result) ≡ readSums (form s) (byte (bytes s) 2) (byte (bytes s) 4) (drop 6 (bytes s))
     )
 read c = rw (c .before .wide5 .ensures .0, records-lent) at (c .read-conditions .ensures)
 
 returns-6 : tie.Need-returns-6
 returns-6 c =
     let r = c .before .before .before .before in
-    c .limit-slots .ensures ∙ told-slots _ _ _ _ _ _ (sym (ap slotsAnswer (c .before .before .slots .given .1)) ∙ read r)
+    c .limit-sums .ensures ∙ told-sums _ _ _ _ _ _ (sym (ap sumsAnswer (c .before .before .sums .given .1)) ∙ read r)
     ∙ tells (r .before .before .before)
 
 returns-7 : tie.Need-returns-7
 returns-7 c =
     let r = c .before .before .before in
-    told-refused _ _ _ _ _ _ (sym (ap slotsAnswer (c .before .why .given .1)) ∙ read r) ∙ tells (r .before .before .before)
+    told-refused _ _ _ _ _ _ (sym (ap sumsAnswer (c .before .why .given .1)) ∙ read r) ∙ tells (r .before .before .before)
 
 pub read-formed-spec : {M : Type 1} → statement M
 read-formed-spec =
@@ -256,8 +256,8 @@ read-formed-spec =
     part-read-conditions-end
     wide-requires-5
     read-conditions-requires
-    enum-known-slots
-    limit-slots-requires
+    enum-known-sums
+    limit-sums-requires
     enum-known-why
     returns-6
     returns-7)

@@ -1,17 +1,31 @@
--- `card::read_record` meets its contract: in each arm the relation is a number, at which reading the record computes,
--- and the function called says what the digit count does.
+-- `card::read_record` meets its contract: the tests are those of the mark and of the relation's number, in the order of `readCondition`,
+-- and the function called says what comes after the relation.
 -- Assumes nothing.
-use mathlib.Core.Path.{_≡_, sym, _∙_}
-use mathlib.Core.Bool.{false}
+use mathlib.Core.Path.{_≡_, sym, ap, _∙_}
+use mathlib.Core.Bool.{true, false, _||_}
+use Prim.Native.Nat.{ℕ, _<_}
 use native.Mathlib.Omega.{arith}
+use borrow.Author.Tests.{le-ltb, ltb-true}
 use borrow.Author.Needs.{needs}
-use Rattle.circuit.specs.Bytes.{wrongMark}
+use lib.Dec.{ltb}
+use Rattle.answer.specs.Outcome.{accepted, numbered}
+use Rattle.answer.proofs.Outcome.{numbered-none}
+use Rattle.field.proofs.Tests.{in-range}
+use Rattle.circuit.specs.Bytes.{byte, wrongMark}
+use Rattle.comparison.specs.Relation.{relations}
+use Rattle.comparison.proofs.Relations.{relation-back}
 use Rattle.query.specs.Form.{recordMarkOf}
 use Rattle.query.proofs.Form.{record-least}
+use Rattle.relations.specs.Relations.{relationIs}
 use Rattle.card.specs.Parts.{formIs}
-use Rattle.card.proofs.NoRelation.{no-relation}
 use Rattle.card.proofs.read_record.Statement.{statement}
 use Rattle.card.proofs.read_record.Tie as tie
+
+abbrev start : tie.Else1 → tie.Start
+start e = e .before .before .before
+
+abbrev passed : tie.After-outside → tie.Else1
+passed o = o .before .before .before
 
 lacks-record-mark-requires : tie.Need-lacks-record-mark-requires
 lacks-record-mark-requires c κs =
@@ -24,56 +38,52 @@ mark : (c : tie.After-lacks-record-mark) → (
 mark c = sym (c .lacks-record-mark .ensures)
 
 -- the mark is right, once it has been tested
-marked : (c : tie.Else1) → (
-    let s = c .before .before .before in wrongMark (recordMarkOf (formIs (s .args .form))) (s .args .bytes .now) ≡ false
-    )
-marked c = mark (c .before) ∙ c .if1 .left
+marked : (e : tie.Else1) → wrongMark (recordMarkOf (formIs (start e .args .form))) (start e .args .bytes .now) ≡ false
+marked e = mark (e .before) ∙ e .if1 .left
 
 returns : tie.Need-returns
 returns c = rw (mark (c .before) ∙ c .if1 .taken)
 
-shared-slice-read-match : tie.Need-shared-slice-read-match
-shared-slice-read-match c =
-    let s = c .before .before .before .before in omega (arith, s .pre, record-least (formIs (s .args .form)))
+shared-slice-read-number : tie.Need-shared-slice-read-number
+shared-slice-read-number c =
+    let s = start (c .before) in omega (arith, s .pre, record-least (formIs (s .args .form)))
+
+wide-requires : tie.Need-wide-requires
+wide-requires c κs = search needs
+
+outside-requires : tie.Need-outside-requires
+outside-requires c κs = search needs
+
+-- what the second says of the relation's number
+number : (o : tie.After-outside) → (
+    let n = byte (start (passed o) .args .bytes .now) 2 in (ltb n 1 || ltb 6 n) ≡ o .outside .result
+    )
+number o = ap (λ (n : ℕ). ltb n 1 || ltb 6 n) (sym (o .before .wide .ensures .0)) ∙ sym (o .outside .ensures)
+
+-- a number out of the range is above it where it is not 0
+above : (n : ℕ) → (ltb n 1 || ltb 6 n) ≡ true → 0 < n → 6 < n
+above n out l = ltb-true 6 n (rw (le-ltb n 1 l) at out)
+
+returns-2 : tie.Need-returns-2
+returns-2 c =
+    let o = c .before in
+    let e = passed o in
+    rw (marked e, numbered-none 8 (byte (start e .args .bytes .now) 2) relations (above _ (number o ∙ c .if2 .taken)))
+
+relation-of-requires : tie.Need-relation-of-requires
+relation-of-requires c κs =
+    let o = c .before in in-range (byte (start (passed o) .args .bytes .now) 2) 1 6 (number o ∙ c .if2 .left)
 
 read-counted-requires : tie.Need-read-counted-requires
 read-counted-requires c κs = search needs
 
-read-counted-requires-2 : tie.Need-read-counted-requires-2
-read-counted-requires-2 c κs = search needs
-
-read-counted-requires-3 : tie.Need-read-counted-requires-3
-read-counted-requires-3 c κs = search needs
-
-read-counted-requires-4 : tie.Need-read-counted-requires-4
-read-counted-requires-4 c κs = search needs
-
-read-counted-requires-5 : tie.Need-read-counted-requires-5
-read-counted-requires-5 c κs = search needs
-
-read-counted-requires-6 : tie.Need-read-counted-requires-6
-read-counted-requires-6 c κs = search needs
-
-returns-2 : tie.Need-returns-2
-returns-2 c = rw (marked (c .before .before .before), c .before .match .keys1) (c .read-counted .ensures)
-
 returns-3 : tie.Need-returns-3
-returns-3 c = rw (marked (c .before .before .before), c .before .match .keys2) (c .read-counted2 .ensures)
-
-returns-4 : tie.Need-returns-4
-returns-4 c = rw (marked (c .before .before .before), c .before .match .keys3) (c .read-counted3 .ensures)
-
-returns-5 : tie.Need-returns-5
-returns-5 c = rw (marked (c .before .before .before), c .before .match .keys4) (c .read-counted4 .ensures)
-
-returns-6 : tie.Need-returns-6
-returns-6 c = rw (marked (c .before .before .before), c .before .match .keys5) (c .read-counted5 .ensures)
-
-returns-7 : tie.Need-returns-7
-returns-7 c = rw (marked (c .before .before .before), c .before .match .keys6) (c .read-counted6 .ensures)
-
-returns-8 : tie.Need-returns-8
-returns-8 c = rw (marked (c .before .before), no-relation _ (c .match .rest))
+returns-3 c =
+    let r = c .before in
+    let e = passed (r .before .before) in
+    let known : numbered 8 (byte (start e .args .bytes .now) 2) relations ≡ accepted (relationIs (r .relation-of .result))
+    = ap (λ (n : ℕ). numbered 8 n relations) (sym (r .relation-of .ensures)) ∙ relation-back _ in
+    rw (marked e, known) (c .read-counted .ensures)
 
 pub read-record-spec : {M : Type 1} → statement M
 read-record-spec =
@@ -81,17 +91,10 @@ read-record-spec =
     (tie.spec
     lacks-record-mark-requires
     returns
-    shared-slice-read-match
-    read-counted-requires
-    read-counted-requires-2
-    read-counted-requires-3
-    read-counted-requires-4
-    read-counted-requires-5
-    read-counted-requires-6
+    shared-slice-read-number
+    wide-requires
+    outside-requires
     returns-2
-    returns-3
-    returns-4
-    returns-5
-    returns-6
-    returns-7
-    returns-8)
+    relation-of-requires
+    read-counted-requires
+    returns-3)

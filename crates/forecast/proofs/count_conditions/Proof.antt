@@ -3,7 +3,8 @@
 -- Assumes nothing.
 use mathlib.Core.Path.{_≡_, ap₂, _∙_}
 use mathlib.Core.Bool.{true, false}
-use Prim.Native.Nat.{_+_, _-_, _<_, _≤_, zero-le}
+use mathlib.Core.Logic.{⊎-elim}
+use Prim.Native.Nat.{_+_, _-_, _<_, _≤_, zero-le, max}
 use native.Mathlib.Omega.{arith}
 use borrow.Author.Needs.{needs}
 use Rattle.digits.specs.Number.{mostDigits}
@@ -20,13 +21,13 @@ use Rattle.forecast.proofs.count_conditions.Statement.{statement}
 use Rattle.forecast.proofs.count_conditions.Tie as tie
 
 abbrev Inv-loop : tie.InvT-loop
-Inv-loop card head order equality count gates₀ products₀ squares₀ breadth₀ slot₀ k₀ gates products squares breadth slot k =
-    Adds (head .prime) (conditionsOf card) k (record { gates = gates; products = products; squares = squares; breadth = breadth })
+Inv-loop card head order equality count gates₀ products₀ squares₀ breadth₀ longest₀ slot₀ k₀ gates products squares breadth longest slot k =
+    Adds (head .prime) (conditionsOf card) k (record { gates = gates; products = products; squares = squares; breadth = breadth; longest = longest })
     × (k ≤ count)
     × Taken (conditionsOf card) k slot
 
 abbrev μ-loop : tie.MeasureT-loop
-μ-loop card head order equality count gates₀ products₀ squares₀ breadth₀ slot₀ k₀ gates products squares breadth slot k = count - k
+μ-loop card head order equality count gates₀ products₀ squares₀ breadth₀ longest₀ slot₀ k₀ gates products squares breadth longest slot k = count - k
 
 -- ---- the stages, and what is known at them
 
@@ -41,7 +42,7 @@ said s = says (s .args .card .now) (s .args .head) (s .pre)
 
 -- what was counted before this turn
 abbrev counts : tie.At-loop Inv-loop μ-loop → Totals
-counts l = record { gates = l .loop .gates; products = l .loop .products; squares = l .loop .squares; breadth = l .loop .breadth }
+counts l = record { gates = l .loop .gates; products = l .loop .products; squares = l .loop .squares; breadth = l .loop .breadth; longest = l .loop .longest }
 
 -- fewer than all are counted
 less : (r : tie.After-record-at Inv-loop μ-loop) → turn r .loop .k < start (turn r) .args .head .count
@@ -82,18 +83,27 @@ room c =
     let s = start l in
     (omega (arith, less (c .before), as-many (s .args .card .now) (s .args .head) (s .pre)), l .loop .inv .0 .few, c .count-condition .ensures .1)
 
+-- the largest digit count then
+longest-is : (j : tie.Joined1 Inv-loop μ-loop) → (
+    let r = j .before .before .before .before .before .before .before in
+    j .if1 .longest ≡ max (turn r .loop .longest) (condition r .digits)
+    )
+longest-is j = ⊎-elim (λ w. omega arith) (λ w. omega arith) (j .if1 .came)
+
 -- what is known once the condition is counted
-after : (c : tie.After-power-above Inv-loop μ-loop) → (
+after : (j : tie.Joined1 Inv-loop μ-loop) → (
+    let c = j .before .before in
     let o = c .before .before .before .before in
     let l = turn (o .before) in
     let a = start l .args in
-    Adds (a .head .prime) (conditionsOf (a .card .now)) (l .loop .k + 1) (more (counts l) (o .count-condition .result) (c .power-above .result))
+    Adds (a .head .prime) (conditionsOf (a .card .now)) (l .loop .k + 1) (more (counts l) (o .count-condition .result) (c .power-above .result) (j .if1 .longest))
     )
-after c =
+after j =
+    let c = j .before .before in
     let o = c .before .before .before .before in
     let r = o .before in
-    adds _ _ _ _ (turn r .loop .inv .0) (condition r) _ _ (r .record-at .ensures)
-    (own-is o) (o .count-condition .ensures .1) (c .power-above .ensures .0) (c .power-above .ensures .1)
+    adds _ _ _ _ (turn r .loop .inv .0) (condition r) _ _ _ (r .record-at .ensures)
+    (own-is o) (o .count-condition .ensures .1) (c .power-above .ensures .0) (c .power-above .ensures .1) (longest-is j) (omega (arith, slotted r))
 
 -- ---- the needs
 
@@ -136,7 +146,7 @@ cast-breadth : tie.Need-cast-breadth Inv-loop μ-loop
 cast-breadth c = search needs
 
 add-breadth : tie.Need-add-breadth Inv-loop μ-loop
-add-breadth c = omega (arith, after c .few .3, room (c .before .before .before .before) .0)
+add-breadth c = omega (arith, room (c .before .before .before .before), c .power-above .ensures .1)
 
 -- the slots that are taken then
 taken : (r : tie.After-record-at Inv-loop μ-loop) → (
@@ -151,7 +161,7 @@ taken r =
 
 add-slot : tie.Need-add-slot Inv-loop μ-loop
 add-slot c =
-    let r = c .before .before .before .before .before .before in omega (arith, taken r .1)
+    let r = c .before .before .before .before .before .before .before .before in omega (arith, taken r .1)
 
 add-k : tie.Need-add-k Inv-loop μ-loop
 add-k c = search needs
@@ -161,7 +171,7 @@ loop-less c = search needs
 
 loop-again : tie.Need-loop-again Inv-loop μ-loop
 loop-again c =
-    let r = c .before .before .before .before .before .before in
+    let r = c .before .before .before .before .before .before .before .before in
     (after (c .before), omega (arith, r .before .loop-test .taken), taken r .0)
 
 returns : tie.Need-returns Inv-loop μ-loop
