@@ -152,8 +152,8 @@ module _ (bytes : List ℕ) (head : CardHead) (k size : ℕ) (e : ReadAs bytes h
   sized : size ≡ recordSize (read .card .form)
   sized = is ∙ ap (λ (s : Summary). recordSize (s .form)) (read .says)
 
-  pub record-long : headSize + size * k + size ≤ length bytes
-  record-long = in-card bytes (read .card) k size (read .reads) few sized
+  pub record-long : headSize + size * k + recordSize (formIs (head .form)) ≤ length bytes
+  record-long = omega (arith, is, in-card bytes (read .card) k size (read .reads) few sized)
 
   pub record-read : ReadAt bytes k size (headIs head) (conditionsOf bytes)
   record-read =

@@ -137,34 +137,42 @@ fn conditions_in_turn(script: &mut Script) {
     script.build(80, &[&good[..], &good[6..10]].concat());
 }
 
-/// Each pair of broken rules answers the earlier one.
+/// Breaks one rule of a card.
+pub type Break = fn(&mut Vec<u8>);
+
+/// The rules of a head, of either form.
+const HEAD_RULES: [Break; 7] = [
+    |card| card[0] ^= 1,
+    |card| card[1] ^= 0x40,
+    |card| card[2] = 9,
+    |card| card[3] = 200,
+    |card| card[5] = 3,
+    |card| card[4] = 0,
+    |card| card.push(0),
+];
+
 fn two_rules_broken(script: &mut Script) {
-    for first in 0..RULES {
-        for second in first + 1..RULES {
-            let mut card = card_bytes(7, 70, &[(2, 1), (6, 2)]);
-            break_rule(&mut card, first);
-            break_rule(&mut card, second);
-            script.forecast(&card);
-        }
-    }
+    let rules: [Break; 4] = [
+        |card| card[7] = 0x48,
+        |card| card[8] = 9,
+        |card| card[9] = 0,
+        |card| card[13] = 16,
+    ];
+    each_pair_broken(script, &card_bytes(7, 70, &[(2, 1), (6, 2)]), &rules);
 }
 
-const RULES: usize = 12;
-
-fn break_rule(card: &mut Vec<u8>, rule: usize) {
-    match rule {
-        0 => card[0] ^= 1,
-        1 => card[1] ^= 0x40,
-        2 => card[2] = 9,
-        3 => card[3] = 200,
-        4 => card[5] = 3,
-        5 => card[4] = 0,
-        6 => card.push(0),
-        7 => card[7] = 0x48,
-        8 => card[8] = 9,
-        9 => card[9] = 0,
-        10 => card[13] = 16,
-        _ => card.truncate(5),
+/// Each pair of broken rules answers the earlier one: those of the head, those
+/// of the records, and at last a card that is too short.
+pub fn each_pair_broken(script: &mut Script, good: &[u8], of_records: &[Break]) {
+    let too_short: Break = |card| card.truncate(5);
+    let rules = [&HEAD_RULES, of_records, &[too_short]].concat();
+    for (place, first) in rules.iter().enumerate() {
+        for second in &rules[place + 1..] {
+            let mut card = good.to_vec();
+            first(&mut card);
+            second(&mut card);
+            script.forecast(&card);
+        }
     }
 }
 

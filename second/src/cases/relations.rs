@@ -123,10 +123,18 @@ fn several_conditions(script: &mut Script) {
     }
 }
 
-/// Drawn cards, run on drawn digits.
 fn drawn_cards(script: &mut Script) {
-    let mut random = Random::new(0xCA4D);
-    for round in 0..48 {
+    run_drawn(script, Random::new(0xCA4D), 48, draw_card);
+}
+
+/// Drawn cards, run on drawn digits.
+pub fn run_drawn(
+    script: &mut Script,
+    mut random: Random,
+    rounds: u64,
+    draw_card: fn(&mut Random) -> Vec<u8>,
+) {
+    for round in 0..rounds {
         let card = draw_card(&mut random);
         script.forecast(&card);
         let gates = script.build_exactly(&card);

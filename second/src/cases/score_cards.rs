@@ -1,6 +1,6 @@
 //! Score cards: what Forecast and Build answer and turn away.
 
-use super::cards::{both, mend};
+use super::cards::{both, each_pair_broken, mend, Break};
 use super::writer::Script;
 use super::{SCORE_BENCH, SOME_PRIMES};
 use crate::card::{card_bytes, score_card_bytes};
@@ -81,38 +81,18 @@ fn records_in_turn(script: &mut Script) {
     }
 }
 
-/// Each pair of broken rules answers the earlier one.
 fn two_rules_broken(script: &mut Script) {
-    for first in 0..RULES {
-        for second in first + 1..RULES {
-            let mut card = score_card_bytes(7, 70, &[(2, 1, 2), (6, 2, 3)]);
-            break_rule(&mut card, first);
-            break_rule(&mut card, second);
-            script.forecast(&card);
-        }
-    }
-}
-
-const RULES: usize = 15;
-
-fn break_rule(card: &mut Vec<u8>, rule: usize) {
-    match rule {
-        0 => card[0] ^= 1,
-        1 => card[1] ^= 0x40,
-        2 => card[2] = 9,
-        3 => card[3] = 200,
-        4 => card[5] = 3,
-        5 => card[4] = 0,
-        6 => card.push(0),
-        7 => card[7] = 0x51,
-        8 => card[8] = 9,
-        9 => card[9] = 0,
-        10 => card[10] = 7,
-        11 => card[11] = 1,
-        12 => card[15] = 16,
-        13 => card[16] = 6,
-        _ => card.truncate(5),
-    }
+    let rules: [Break; 7] = [
+        |card| card[7] = 0x51,
+        |card| card[8] = 9,
+        |card| card[9] = 0,
+        |card| card[10] = 7,
+        |card| card[11] = 1,
+        |card| card[15] = 16,
+        |card| card[16] = 6,
+    ];
+    let good = score_card_bytes(7, 70, &[(2, 1, 2), (6, 2, 3)]);
+    each_pair_broken(script, &good, &rules);
 }
 
 /// Both sides of each border of a weight; 9 goes before it and 5 after it.

@@ -1,5 +1,6 @@
 //! Scores: built tables of score cards, run on numbers.
 
+use super::relations::run_drawn;
 use super::writer::{draw_lists, Script};
 use super::{RELATIONS, SCORE_BENCH};
 use crate::card::{score_card_bytes, Card, Relation};
@@ -216,18 +217,8 @@ fn every_prime(script: &mut Script) {
     }
 }
 
-/// Drawn score cards, run on drawn digits.
 fn drawn_cards(script: &mut Script) {
-    let mut random = Random::new(0x5C04E);
-    for round in 0..32 {
-        let card = draw_card(&mut random);
-        script.forecast(&card);
-        let gates = script.build_exactly(&card);
-        script.check();
-        let (left, right) = draw_lists(&mut random, &card, round % 8);
-        script.run(gates, &left, &right);
-        script.run(gates, &right, &left);
-    }
+    run_drawn(script, Random::new(0x5C04E), 32, draw_card);
 }
 
 /// As many conditions as the weights and the digits have room for.

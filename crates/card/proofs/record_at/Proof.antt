@@ -30,7 +30,7 @@ place z = headSize + z .record-size .result * start z .args .k
 long : (z : tie.After-record-size) → place z + recordSize (formIs (start z .args .head .form)) ≤ length (start z .args .card .now)
 long z =
     let s = start z in
-    omega (arith, z .record-size .ensures, record-long (s .args .card .now) (s .args .head) (s .args .k) _ (s .pre .0) (s .pre .1) (z .record-size .ensures))
+    record-long (s .args .card .now) (s .args .head) (s .args .k) _ (s .pre .0) (s .pre .1) (z .record-size .ensures)
 
 -- of at least four bytes
 least : (z : tie.After-record-size) → 4 ≤ recordSize (formIs (start z .args .head .form))

@@ -22,7 +22,7 @@ long : (z : tie.After-record-size) → (
     )
 long z =
     let s = start z in
-    omega (arith, z .record-size .ensures, record-long (s .args .card .now) (s .args .head) (s .args .k) _ (s .pre .0) (s .pre .1) (z .record-size .ensures))
+    record-long (s .args .card .now) (s .args .head) (s .args .k) _ (s .pre .0) (s .pre .1) (z .record-size .ensures)
 
 record-size-requires : tie.Need-record-size-requires
 record-size-requires c κs = search needs
