@@ -1,7 +1,8 @@
 //! The proved library against the second program: random and damaged cards, tables and lists,
 //! every answer and every byte of every lent buffer, and the bytes around it.
 //!
-//! STAPLETHREAD_ROUNDS sets how many rounds each test takes.
+//! STAPLETHREAD_ROUNDS sets how many rounds each test takes, but for `each_word`, which takes each
+//! word once.
 
 use second::card::{card_bytes, score_card_bytes, Card, Form, SCORE_HEAD_MARK};
 use second::Random;
@@ -365,6 +366,79 @@ fn tables() {
     }
     checked.expect("check", &[0, 2, 3, 4, 5, 12, 13, 14, 15, 16, 17]);
     run.expect("run", &[0, 2, 3, 4, 5, 12, 13, 14, 15, 16, 17, 18, 19, 20]);
+}
+
+/// A LEFT and a second gate, whose record opens with a word and has operands that every kind may
+/// have.
+fn table_of_word(word: u32) -> [u8; 24] {
+    let mut table = [
+        0x47, 0x48, 251, 75, 1, 0, 2, 0, //
+        0x47, 0x54, 1, 0, 0, 0, 0, 0, //
+        0, 0, 0, 0, 0, 0, 0, 0,
+    ];
+    table[16..20].copy_from_slice(&word.to_le_bytes());
+    table
+}
+
+/// A word that is fine, or with a bit or some bytes changed; or any.
+fn word(random: &mut Random) -> u32 {
+    let mut bytes = [0x47, 0x54, 1 + random.byte_below(7), 0];
+    let fine = u32::from_le_bytes(bytes);
+    match random.below(4) {
+        0 => fine,
+        1 => fine ^ (1 << random.below(32)),
+        2 => {
+            for _ in 0..1 + random.below(3) {
+                bytes[random.below(4) as usize] = odd_byte(random);
+            }
+            u32::from_le_bytes(bytes)
+        }
+        _ => random.next_u64() as u32,
+    }
+}
+
+#[test]
+fn words() {
+    let mut random = Random::new(6);
+    let mut checked = Seen::default();
+    let mut run = Seen::default();
+    for _ in 0..rounds() {
+        let table = table_of_word(word(&mut random));
+        let answer = of_library(staplethread::check(&table));
+        assert_eq!(answer, of_second(second::check(&table)), "{table:02X?}");
+        checked.note(&answer);
+        let (output, _) = compare_lent(
+            &mut random,
+            2,
+            &table,
+            |work| number_of(staplethread::run(&table, &[5], &[9], work)),
+            |work| second::run(&table, &[5], &[9], work),
+        );
+        run.note(&output);
+    }
+    checked.expect("check of a word", &[0, 2, 5, 16]);
+    run.expect("run of a word", &[0, 2, 5, 16]);
+}
+
+/// Each of the 2^32 words: the compiled library's verdict is the second program's. Seven are fine,
+/// 256 less seven have another kind, 255 times 256 a spare, all others another mark.
+#[test]
+#[ignore = "takes minutes"]
+fn each_word() {
+    let mut seen = Seen::default();
+    for word in 0..=u32::MAX {
+        let table = table_of_word(word);
+        let answer = of_library(staplethread::check(&table));
+        assert_eq!(answer, of_second(second::check(&table)), "{word:08X}");
+        seen.note(&answer);
+    }
+    let counts = [
+        (0, 7),
+        (2, (1 << 32) - (1 << 16)),
+        (5, 255 * 256),
+        (16, 249),
+    ];
+    assert_eq!(seen.0, BTreeMap::from(counts));
 }
 
 /// 0 where the score says that no condition holds, 1 where some do, 2 where all do.

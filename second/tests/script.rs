@@ -204,6 +204,44 @@ fn each_field_of_a_table_is_turned_away() {
     }
 }
 
+/// Mark, spare and kind of a gate's word, broken alone and together: the first
+/// in this order is told.
+#[test]
+fn each_verdict_on_a_word_comes_up() {
+    let script = cases();
+    let text = answers(&script);
+    let mut words = BTreeSet::new();
+    let mut table = Vec::new();
+    for (line, answer) in lines_with_answers(&script, &text) {
+        let mut parts = line.split(' ');
+        match parts.next() {
+            Some("table") => table = bytes(parts.next().unwrap()),
+            Some("build" | "cut") => table.clear(),
+            Some("set") => {
+                let place: usize = parts.next().unwrap().parse().unwrap();
+                if let Some(byte) = table.get_mut(place) {
+                    *byte = parts.next().unwrap().parse().unwrap();
+                }
+            }
+            // The tables of two gates.
+            Some("check") if table.len() == 24 && table[6] == 2 => {
+                let mark = table[16..18] != [0x47, 0x54];
+                let (spare, kind) = (table[19] != 0, !(1..8).contains(&table[18]));
+                let first = match (mark, spare, kind) {
+                    (true, _, _) => Some(2),
+                    (_, true, _) => Some(5),
+                    (_, _, true) => Some(16),
+                    _ => None,
+                };
+                assert_eq!(refusal(answer.unwrap()), first, "{table:02X?}");
+                words.insert((mark, spare, kind));
+            }
+            _ => {}
+        }
+    }
+    assert_eq!(words.len(), 8);
+}
+
 /// Each kind's operands a and b are turned away, and let pass.
 #[test]
 fn each_operand_of_each_kind_is_turned_away() {

@@ -3,10 +3,12 @@
 -- and an entry taken by its place is the one that stands there.
 -- Assumes nothing.
 use mathlib.Core.Path.{_≡_, refl, sym, ap, subst, _∙_}
-use mathlib.Core.Bool.{Bool, true, false}
+use mathlib.Core.Bool.{Bool, true, false, _||_}
 use mathlib.Core.List.{List, [], _∷_}
 use Prim.Native.Nat.{ℕ, zero, suc, _+_, _<_}
 use native.Mathlib.Omega.{arith}
+use borrow.Author.Tests.{ltb-true, le-ltb}
+use lib.Dec.{ltb}
 use lib.ListN.{length}
 use Rattle.answer.specs.Outcome.{Answer, refused, accepted, Outcome, unaltered, Keeps, refuse, onAnswer, numbered}
 
@@ -88,6 +90,17 @@ pub onAnswer-same : {A R : Type 0} (first : Answer A) (refusal : ℕ → R) {f g
 onAnswer-same (refused k) refusal same = refl
 onAnswer-same (accepted a) refusal same = same a
 
+-- what comes after a rule matters only where the rule is kept
+pub refuse-same : {R : Type 0} (test : Bool) (refusal : R) {x y : R} → (test ≡ false → x ≡ y) → refuse test refusal x ≡ refuse test refusal y
+refuse-same true refusal same = refl
+refuse-same false refusal same = same refl
+
+-- what follows an answer that begins with a rule: the rule, then what follows the rest
+pub onAnswer-rule : {A R : Type 0} (test : Bool) (number : ℕ) (later : Answer A) (refusal : ℕ → R) (next : A → R)
+    → onAnswer (refuse test (refused number) later) refusal next ≡ refuse test (refusal number) (onAnswer later refusal next)
+onAnswer-rule true number later refusal next = refl
+onAnswer-rule false number later refusal next = refl
+
 pub accepted-same : {A : Type 0} {a b : A} → accepted a ≡ accepted b → a ≡ b
 accepted-same e = cc
 
@@ -114,3 +127,9 @@ numbered-none refusal zero (a ∷ more) h = refl
 numbered-none refusal (suc zero) (a ∷ more) h = absurd (omega (arith, h (omega arith)))
 numbered-none refusal (suc (suc place)) (a ∷ more) h =
     numbered-none refusal (suc place) more (λ l. omega (arith, h (omega arith)))
+
+-- the same, as a test
+pub numbered-out : {A : Type 0} (refusal place : ℕ) (entries : List A) → (ltb place 1 || ltb (length entries) place) ≡ true
+    → numbered refusal place entries ≡ refused refusal
+numbered-out refusal place entries t =
+    numbered-none refusal place entries (λ l. ltb-true (length entries) place (rw (le-ltb place 1 l) at t))

@@ -1,8 +1,8 @@
 -- What a card says, from what its records were read as: its slots are the digits that were added up, and 10 is tested on them,
 -- 26 on the weights that were added up with them.
 -- Assumes nothing.
-use mathlib.Core.Path.{_≡_, refl, sym}
-use mathlib.Core.Bool.{Bool, true, false}
+use mathlib.Core.Path.{_≡_, sym}
+use mathlib.Core.Bool.{Bool}
 use mathlib.Core.List.{List}
 use Prim.Native.Nat.{ℕ, _-_}
 use native.Mathlib.Omega.{arith}
@@ -10,7 +10,7 @@ use lib.Dec.{ltb}
 use lib.ListN.{length, take, drop, length-drop}
 use lib.Seq.{take-all}
 use Rattle.answer.specs.Outcome.{Answer, refused, accepted, refuse, onAnswer}
-use Rattle.answer.proofs.Outcome.{answered, accepted-same, was-refused}
+use Rattle.answer.proofs.Outcome.{onAnswer-rule, answered, accepted-same, was-refused}
 use Rattle.digits.specs.Number.{mostDigits}
 use Rattle.comparison.specs.Condition.{Condition}
 use Rattle.query.specs.Card.{Card, slotsOf, totalWeight, wrongTotal}
@@ -32,9 +32,7 @@ records-lent bytes = take-all (length bytes - headSize) (drop headSize bytes) (r
 limited : (many heavy : Bool) (card : Card)
     → refuse many (refused 10) (refuse heavy (refused 26) (accepted (summary card)))
     ≡ onAnswer (refuse many (refused 10) (refuse heavy (refused 26) (accepted card))) refused (λ card. accepted (summary card))
-limited true heavy card = refl
-limited false true card = refl
-limited false false card = refl
+limited many heavy card = rw (onAnswer-rule, onAnswer-rule)
 
 module _ (form : Form) (p s count : ℕ) (records : List ℕ) where
   pub told-refused : (number : ℕ) → refused number ≡ readSums form p count records → refused number ≡ telling form p s count records

@@ -5,6 +5,7 @@ pub mod WellFormed
 pub mod Meaning
 pub mod Equations
 pub mod Reading
+pub mod Word
 pub mod Records
 pub mod Later
 pub mod Bytes

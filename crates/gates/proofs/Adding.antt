@@ -8,7 +8,7 @@ use borrow.Author.Tests.{eq-eqb}
 use lib.Dec.{ltb, eqb}
 use lib.ListN.{length, getD}
 use Rattle.answer.specs.Outcome.{Answer, refused, accepted, refuse}
-use Rattle.answer.proofs.Outcome.{refused≢accepted, accepted-same}
+use Rattle.answer.proofs.Outcome.{refused≢accepted, onAnswer-rule, accepted-same}
 use Rattle.circuit.specs.Constant.{isConstant}
 use Rattle.circuit.specs.Gate.{Gate, Left, Right, Add, Sub, Scale, Flip, Mul}
 use Rattle.circuit.specs.Reading.{readFields}
@@ -27,8 +27,7 @@ operands-unfit false x z n e = cc
 
 -- a gate that was tested
 tested : (fit : Bool) (earlier : List ℕ) (g : Gate) → operands fit (addition earlier g) ≡ adding earlier (refuse (not fit) (refused 17) (accepted g))
-tested true earlier g = refl
-tested false earlier g = refl
+tested fit earlier g = rw onAnswer-rule
 
 -- a gate whose b is its record's
 tested-both : (fit : Bool) (b : ℕ) (earlier : List ℕ) (g : Gate)

@@ -1,4 +1,4 @@
-// One gate of a table: the rules that its record keeps, its depth, and what it adds to the counts.
+// One gate of a table: its record's word, the rules that it keeps, its depth, and what it adds to the counts.
 use answer::Refusal;
 use records::GATE_MARK;
 use records::TableHead;
@@ -10,8 +10,13 @@ ghost use lib.ListN.{length, getD};
 ghost use Rattle.answer.specs.Outcome.{accepted};
 ghost use Rattle.circuit.specs.Constant.{isConstant};
 ghost use Rattle.circuit.specs.Reading.{readFields, readGate};
+ghost use Rattle.circuit.specs.Word.{wordAt, OpensWithBytes, wordVerdict};
 ghost use Rattle.records.specs.Head.{headIs};
 ghost use Rattle.gates.specs.Adding.{linear, isEarlier, deeperOf, multiplied, operands, adding, AreLow, addedAnswer};
+ghost use Rattle.gates.specs.Verdict.{verdictAnswer};
+
+// The number of the last kind.
+const MOST_KIND: usize = 7;
 
 // What a gate adds to the report on the gates before it, or why it is refused.
 pub enum Added {
@@ -20,6 +25,12 @@ pub enum Added {
         products: u32,
         squares: u32,
     },
+    Refused(Refusal),
+}
+
+// What the first four bytes of a record say: its kind, or why it is refused.
+enum Verdict {
+    Kind(u8),
     Refused(Refusal),
 }
 
@@ -136,22 +147,51 @@ fn add_gate(kind: u8, a: usize, b: usize, head: TableHead, earlier: &[u16]) -> A
     }
 }
 
+// The first four bytes as one word, the first byte lowest. Byte by byte and not by `u16_at`, as it has to be known of each
+// that it is below 256.
+fn word_at(bytes: &[u8]) -> u32
+    requires { ⌜ 4 ≤ length (now bytes) ⌝ }
+    ensures { λ r. ⌜ (r ≡ wordAt (now (bytes .entry))) × OpensWithBytes (now (bytes .entry)) ⌝ }
+{
+    let low = arithmetic::wide(bytes[0]) + 0x100 * arithmetic::wide(bytes[1]);
+    let high = arithmetic::wide(bytes[2]) + 0x100 * arithmetic::wide(bytes[3]);
+    (low + 0x10000 * high) as u32
+}
+
+// What a record's word says by itself: its low half has the mark, and its high half is the kind where the spare, its top byte, is 0.
+fn verdict_of(word: u32) -> Verdict
+    ensures { λ r. ⌜ verdictAnswer r ≡ wordVerdict word ⌝ }
+{
+    let low = (word % 0x10000) as usize;
+    let kind = (word / 0x10000) as usize;
+    let spare = (word / 0x1000000) as usize;
+    // The mark's two bytes stand in the word's low half as those of a u16 do.
+    let mark = GATE_MARK;
+    if low != records::u16_at(&mark, 0) {
+        return Verdict::Refused(Refusal::WrongMark);
+    }
+    if records::outside(spare, 0, 0) {
+        return Verdict::Refused(Refusal::SpareNotZero);
+    }
+    if records::outside(kind, 1, MOST_KIND) {
+        return Verdict::Refused(Refusal::UnknownKind);
+    }
+    Verdict::Kind(kind as u8)
+}
+
 // What the gate adds whose record the bytes begin with, or the first of its rules that is broken.
 pub fn read_gate(bytes: &[u8], head: TableHead, earlier: &[u16]) -> Added
     requires { ⌜ (8 ≤ length (now bytes)) × AreLow (now earlier) ⌝ }
     ensures { λ r. ⌜ addedAnswer r ≡ adding (now (earlier .entry)) (readGate (headIs head) (length (now (earlier .entry))) (now (bytes .entry))) ⌝ }
 {
-    if records::lacks_mark(bytes, GATE_MARK) {
-        return Added::Refused(Refusal::WrongMark);
+    match verdict_of(word_at(bytes)) {
+        Verdict::Kind(kind) => add_gate(
+            kind,
+            records::u16_at(bytes, 4),
+            records::u16_at(bytes, 6),
+            head,
+            earlier,
+        ),
+        Verdict::Refused(why) => Added::Refused(why),
     }
-    if bytes[3] != 0 {
-        return Added::Refused(Refusal::SpareNotZero);
-    }
-    add_gate(
-        bytes[2],
-        records::u16_at(bytes, 4),
-        records::u16_at(bytes, 6),
-        head,
-        earlier,
-    )
 }

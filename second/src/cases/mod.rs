@@ -7,6 +7,7 @@ mod runs;
 mod score_cards;
 mod score_runs;
 mod tables;
+mod words;
 mod writer;
 
 use writer::Script;
@@ -22,8 +23,8 @@ const SOME_PRIMES: [u8; 9] = [3, 5, 7, 11, 13, 17, 31, 127, 251];
 
 const RELATIONS: [u8; 6] = [1, 2, 3, 4, 5, 6];
 
-/// The case script: the same text each time. Score cards come last, and what
-/// the lines before them answer does not hang on what they leave in the areas.
+/// The case script: the same text each time. What a request adds comes last, so
+/// that the lines before it answer as they did, whatever it leaves in the areas.
 pub fn cases() -> String {
     let mut script = Script::new();
     cards::write(&mut script);
@@ -34,5 +35,6 @@ pub fn cases() -> String {
     tables::longest(&mut script);
     score_cards::write(&mut script);
     score_runs::write(&mut script);
+    words::write(&mut script);
     script.finish()
 }

@@ -2,14 +2,13 @@
 -- and the function called says what comes after the relation.
 -- Assumes nothing.
 use mathlib.Core.Path.{_≡_, sym, ap, _∙_}
-use mathlib.Core.Bool.{true, false, _||_}
-use Prim.Native.Nat.{ℕ, _<_}
+use mathlib.Core.Bool.{false, _||_}
+use Prim.Native.Nat.{ℕ}
 use native.Mathlib.Omega.{arith}
-use borrow.Author.Tests.{le-ltb, ltb-true}
 use borrow.Author.Needs.{needs}
 use lib.Dec.{ltb}
 use Rattle.answer.specs.Outcome.{accepted, numbered}
-use Rattle.answer.proofs.Outcome.{numbered-none}
+use Rattle.answer.proofs.Outcome.{numbered-out}
 use Rattle.field.proofs.Tests.{in-range}
 use Rattle.circuit.specs.Bytes.{byte, wrongMark}
 use Rattle.comparison.specs.Relation.{relations}
@@ -60,15 +59,11 @@ number : (o : tie.After-outside) → (
     )
 number o = ap (λ (n : ℕ). ltb n 1 || ltb 6 n) (sym (o .before .wide .ensures .0)) ∙ sym (o .outside .ensures)
 
--- a number out of the range is above it where it is not 0
-above : (n : ℕ) → (ltb n 1 || ltb 6 n) ≡ true → 0 < n → 6 < n
-above n out l = ltb-true 6 n (rw (le-ltb n 1 l) at out)
-
 returns-2 : tie.Need-returns-2
 returns-2 c =
     let o = c .before in
     let e = passed o in
-    rw (marked e, numbered-none 8 (byte (start e .args .bytes .now) 2) relations (above _ (number o ∙ c .if2 .taken)))
+    rw (marked e, numbered-out 8 (byte (start e .args .bytes .now) 2) relations (number o ∙ c .if2 .taken))
 
 relation-of-requires : tie.Need-relation-of-requires
 relation-of-requires c κs =
