@@ -332,6 +332,31 @@ fn list(random: &mut Random, p: u8, slots: usize) -> Vec<u8> {
     list
 }
 
+/// What both sides answer to a Check.
+fn compare_check(table: &[u8]) -> Result<Numbers, u8> {
+    let answer = of_library(staplethread::check(table));
+    assert_eq!(answer, of_second(second::check(table)), "{table:02X?}");
+    answer
+}
+
+/// What both sides answer to a Run with so many work bytes.
+fn compare_run(
+    random: &mut Random,
+    table: &[u8],
+    left: &[u8],
+    right: &[u8],
+    length: usize,
+) -> Result<u8, u8> {
+    let (output, _) = compare_lent(
+        random,
+        length,
+        &(table, left, right),
+        |work| number_of(staplethread::run(table, left, right, work)),
+        |work| second::run(table, left, right, work),
+    );
+    output
+}
+
 #[test]
 fn tables() {
     let mut random = Random::new(2);
@@ -340,8 +365,7 @@ fn tables() {
     for _ in 0..rounds() {
         let table = table(&mut random);
         let before = table.clone();
-        let answer = of_library(staplethread::check(&table));
-        assert_eq!(answer, of_second(second::check(&table)), "{table:02X?}");
+        let answer = compare_check(&table);
         checked.note(&answer);
         let part = staplethread::trim(&table);
         assert_eq!(part, second::trim(&table));
@@ -354,14 +378,7 @@ fn tables() {
         let right = list(&mut random, p, usize::from(slots));
         let gates = answer.as_ref().map_or(7, |r| usize::from(r.0));
         let length = room(&mut random, gates);
-        let (output, _) = compare_lent(
-            &mut random,
-            length,
-            &(&table, &left, &right),
-            |work| number_of(staplethread::run(&table, &left, &right, work)),
-            |work| second::run(&table, &left, &right, work),
-        );
-        run.note(&output);
+        run.note(&compare_run(&mut random, &table, &left, &right, length));
         assert_eq!(table, before);
     }
     checked.expect("check", &[0, 2, 3, 4, 5, 12, 13, 14, 15, 16, 17]);
@@ -404,17 +421,8 @@ fn words() {
     let mut run = Seen::default();
     for _ in 0..rounds() {
         let table = table_of_word(word(&mut random));
-        let answer = of_library(staplethread::check(&table));
-        assert_eq!(answer, of_second(second::check(&table)), "{table:02X?}");
-        checked.note(&answer);
-        let (output, _) = compare_lent(
-            &mut random,
-            2,
-            &table,
-            |work| number_of(staplethread::run(&table, &[5], &[9], work)),
-            |work| second::run(&table, &[5], &[9], work),
-        );
-        run.note(&output);
+        checked.note(&compare_check(&table));
+        run.note(&compare_run(&mut random, &table, &[5], &[9], 2));
     }
     checked.expect("check of a word", &[0, 2, 5, 16]);
     run.expect("run of a word", &[0, 2, 5, 16]);
@@ -427,10 +435,7 @@ fn words() {
 fn each_word() {
     let mut seen = Seen::default();
     for word in 0..=u32::MAX {
-        let table = table_of_word(word);
-        let answer = of_library(staplethread::check(&table));
-        assert_eq!(answer, of_second(second::check(&table)), "{word:08X}");
-        seen.note(&answer);
+        seen.note(&compare_check(&table_of_word(word)));
     }
     let counts = [
         (0, 7),

@@ -2,18 +2,14 @@
 -- 26 on the weights that were added up with them.
 -- Assumes nothing.
 use mathlib.Core.Path.{_≡_, sym}
-use mathlib.Core.Bool.{Bool}
 use mathlib.Core.List.{List}
 use Prim.Native.Nat.{ℕ, _-_}
 use native.Mathlib.Omega.{arith}
-use lib.Dec.{ltb}
 use lib.ListN.{length, take, drop, length-drop}
 use lib.Seq.{take-all}
-use Rattle.answer.specs.Outcome.{Answer, refused, accepted, refuse, onAnswer}
+use Rattle.answer.specs.Outcome.{Answer, refused, accepted, onAnswer}
 use Rattle.answer.proofs.Outcome.{onAnswer-rule, answered, accepted-same, was-refused}
-use Rattle.digits.specs.Number.{mostDigits}
 use Rattle.comparison.specs.Condition.{Condition}
-use Rattle.query.specs.Card.{Card, slotsOf, totalWeight, wrongTotal}
 use Rattle.query.specs.Form.{headSize, Form}
 use Rattle.query.specs.Reading.{readConditions, withinLimits, readLimits}
 use Rattle.query.proofs.Reading.{conditions-placed}
@@ -29,11 +25,6 @@ telling form p s count records =
 pub records-lent : (bytes : List ℕ) → take (length bytes - headSize) (drop headSize bytes) ≡ drop headSize bytes
 records-lent bytes = take-all (length bytes - headSize) (drop headSize bytes) (rw length-drop (omega arith))
 
-limited : (many heavy : Bool) (card : Card)
-    → refuse many (refused 10) (refuse heavy (refused 26) (accepted (summary card)))
-    ≡ onAnswer (refuse many (refused 10) (refuse heavy (refused 26) (accepted card))) refused (λ card. accepted (summary card))
-limited many heavy card = rw (onAnswer-rule, onAnswer-rule)
-
 module _ (form : Form) (p s count : ℕ) (records : List ℕ) where
   pub told-refused : (number : ℕ) → refused number ≡ readSums form p count records → refused number ≡ telling form p s count records
   told-refused number e = rw (was-refused number (readConditions form p 0 count records) sumsOf e)
@@ -45,9 +36,7 @@ module _ (form : Form) (p s count : ℕ) (records : List ℕ) where
   -- the conditions that were read
   told : (cs : List Condition) (sums : Sums) → readConditions form p 0 count records ≡ accepted cs → sumsOf cs ≡ sums → length cs ≡ count
       → withinLimits form p (sums .slots) (sums .weights) (said (sums .slots)) ≡ telling form p s count records
-  told cs sums e sum size =
-      rw (e, ← sum, ← size)
-      (limited (ltb mostDigits (slotsOf cs)) (wrongTotal form p (totalWeight cs)) (record { form = form; prime = p; weight = s; conditions = cs }))
+  told cs sums e sum size = rw (e, ← sum, ← size, onAnswer-rule, onAnswer-rule)
 
   pub told-sums : (sums : Sums) → accepted sums ≡ readSums form p count records
       → withinLimits form p (sums .slots) (sums .weights) (said (sums .slots)) ≡ telling form p s count records

@@ -273,7 +273,6 @@ fn damaged_card(script: &mut Script) {
     }
 }
 
-/// Lent tables of one byte too few, just enough, and more.
 fn rooms(script: &mut Script) {
     let cards = [
         card_bytes(3, 50, &[(5, 1)]),
@@ -282,7 +281,12 @@ fn rooms(script: &mut Script) {
         card_bytes(13, 100, &[(3, 1), (6, 4), (2, 2)]),
         card_bytes(31, 51, &[(1, 3)]),
     ];
-    for card in &cards {
+    each_in_rooms(script, &cards);
+}
+
+/// Lent tables of one byte too few, just enough, and more.
+pub fn each_in_rooms(script: &mut Script, cards: &[Vec<u8>]) {
+    for card in cards {
         let gates = script.build_exactly(card);
         for room in [0, 7, 8, 8 * gates, 8 * gates + 7, 8 * gates + 9] {
             script.build(room, card);

@@ -1,6 +1,6 @@
 //! Score cards: what Forecast and Build answer and turn away.
 
-use super::cards::{both, each_pair_broken, mend, Break};
+use super::cards::{both, each_in_rooms, each_pair_broken, mend, Break};
 use super::writer::Script;
 use super::{SCORE_BENCH, SOME_PRIMES};
 use crate::card::{card_bytes, score_card_bytes};
@@ -291,7 +291,6 @@ fn damaged_card(script: &mut Script) {
     }
 }
 
-/// Lent tables of one byte too few, just enough, and more.
 fn rooms(script: &mut Script) {
     let cards = [
         score_card_bytes(3, 50, &[(5, 1, 1)]),
@@ -299,12 +298,5 @@ fn rooms(script: &mut Script) {
         score_card_bytes(17, 77, &[(4, 2, 16)]),
         score_card_bytes(13, 100, &[(3, 1, 1), (6, 4, 10), (2, 2, 1)]),
     ];
-    for card in &cards {
-        let gates = script.build_exactly(card);
-        for room in [0, 7, 8, 8 * gates, 8 * gates + 7, 8 * gates + 9] {
-            script.build(room, card);
-        }
-        script.check();
-        script.trim();
-    }
+    each_in_rooms(script, &cards);
 }
