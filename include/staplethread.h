@@ -1,7 +1,7 @@
 /* Staplethread for C and C++: query cards, gate tables and digits.
  *
  * The rules are those of document 01, "The query builder and its exact rules", and of scored queries
- * those of document 02.
+ * and of constants near zero those of document 02.
  *
  * A list of bytes is a pointer, then its length in bytes. Pointers are not null, not even those of
  * empty lists. What a call writes overlaps nothing else that is lent to it. Nothing is kept after a
@@ -102,7 +102,9 @@ uint8_t staplethread_build(const uint8_t *card, size_t card_length,
 
 /* ---- Gate tables
  *
- * A table has 8(G+1) bytes. Later bytes are not looked at.
+ * A table has 8(G+1) bytes. Later bytes are not looked at. The b of a SCALE is its constant: a signed
+ * number of 16 bits, two's complement, from -(p-1)/2 to (p-1)/2. A table that was kept from before
+ * constants had signs, with a constant above (p-1)/2, is refused with 17; build it anew.
  */
 
 /* Check: the report on a table.

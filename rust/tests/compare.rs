@@ -1,8 +1,8 @@
 //! The proved library against the second program: random and damaged cards, tables and lists,
 //! every answer and every byte of every lent buffer, and the bytes around it.
 //!
-//! STAPLETHREAD_ROUNDS sets how many rounds each test takes, but for `each_word`, which takes each
-//! word once.
+//! STAPLETHREAD_ROUNDS sets how many rounds each test takes, but for `each_word` and
+//! `each_constant`, which take each word, and each b of a SCALE at each prime, once.
 
 use second::card::{card_bytes, score_card_bytes, Card, Form, SCORE_HEAD_MARK};
 use second::Random;
@@ -271,7 +271,33 @@ fn built_table(random: &mut Random) -> Vec<u8> {
     }
 }
 
-/// A table of gates that no card gives; now and then one of them breaks a rule.
+/// A constant of either sign, and often one at an end of the range.
+fn constant(random: &mut Random, p: u8) -> i16 {
+    let most = i16::from(p / 2);
+    match random.below(8) {
+        0 => most,
+        1 => -most,
+        _ => i16::from(random.byte_below(p)) - most,
+    }
+}
+
+/// A constant as a record has it.
+fn bits(constant: i16) -> u64 {
+    constant.cast_unsigned().into()
+}
+
+/// Just beyond an end of the range, a number from there to p-1, as constants were, or any.
+fn stray_constant(random: &mut Random, p: u8) -> i16 {
+    let beyond = i16::from(p / 2) + 1;
+    match random.below(4) {
+        0 => beyond,
+        1 => -beyond,
+        2 => beyond + i16::from(random.byte_below(p / 2)),
+        _ => random.next_u64() as i16,
+    }
+}
+
+/// A table of gates that no card gives; now and then some constants of it break their rule.
 fn drawn_table(random: &mut Random) -> Vec<u8> {
     let most = if rarely(random, 200) { 8191 } else { 60 };
     let gates = 1 + random.below(most) as u16;
@@ -279,6 +305,7 @@ fn drawn_table(random: &mut Random) -> Vec<u8> {
     let p = prime(random);
     let [low, high] = gates.to_le_bytes();
     let weight = 50 + random.byte_below(51);
+    let has_strays = rarely(random, 8);
     let mut table = vec![0x47, 0x48, p, weight, slots, 0, low, high];
     for number in 0..gates {
         let kind = match number {
@@ -292,7 +319,8 @@ fn drawn_table(random: &mut Random) -> Vec<u8> {
         };
         let b = match kind {
             3 | 4 => earlier(random),
-            5 => random.below(u64::from(p)),
+            5 if has_strays && rarely(random, 4) => bits(stray_constant(random, p)),
+            5 => bits(constant(random, p)),
             7 if rarely(random, 2) => a,
             7 => earlier(random),
             _ => 0,
@@ -444,6 +472,40 @@ fn each_word() {
         (16, 249),
     ];
     assert_eq!(seen.0, BTreeMap::from(counts));
+}
+
+/// A LEFT and a SCALE of it.
+fn table_of_scale(p: u8, b: u16) -> [u8; 24] {
+    let [low, high] = b.to_le_bytes();
+    [
+        0x47, 0x48, p, 75, 1, 0, 2, 0, //
+        0x47, 0x54, 1, 0, 0, 0, 0, 0, //
+        0x47, 0x54, 5, 0, 0, 0, low, high,
+    ]
+}
+
+/// Each b of a SCALE at each prime: p of them are constants, the others give 17. Each constant
+/// times each value is what the second program says.
+#[test]
+fn each_constant() {
+    let mut random = Random::new(7);
+    for p in second::field::PRIMES {
+        let mut seen = Seen::default();
+        for b in 0..=u16::MAX {
+            let table = table_of_scale(p, b);
+            let answer = compare_check(&table);
+            seen.note(&answer);
+            if answer.is_ok() {
+                for value in 0..p {
+                    let output = compare_run(&mut random, &table, &[value], &[0], 2);
+                    assert!(output.is_ok());
+                }
+            }
+        }
+        let constants = u64::from(p);
+        let counts = [(0, constants), (17, 65_536 - constants)];
+        assert_eq!(seen.0, BTreeMap::from(counts), "{p}");
+    }
 }
 
 /// 0 where the score says that no condition holds, 1 where some do, 2 where all do.

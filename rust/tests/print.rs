@@ -34,7 +34,7 @@ fn first_bench_card() {
     let card = [0xC5, 0x48, 3, 75, 1, 0, 0xC5, 0x51, 1, 1];
     let text = printed(&card);
     assert!(text.starts_with("gates 7 products 0 squares 1 cost 75 depth 1\n0 LEFT 0 0\n"));
-    assert!(text.ends_with("\n6 ADD 4 5\n"));
+    assert!(text.ends_with("\n4 SCALE 2 1\n5 SCALE 3 -1\n6 ADD 4 5\n"));
     compare(&card);
 }
 
@@ -56,9 +56,10 @@ fn largest_cards() {
     compare(&score_card_bytes(251, 100, &[(2, 16, 250)]));
 }
 
+/// 5 and 6 are 5 and -5 as constants.
 #[test]
 fn weights() {
-    for weight in [0, 1, 10, 11, 255] {
+    for weight in [0, 1, 5, 6, 10, 11, 255] {
         compare(&score_card_bytes(11, 80, &[(4, 2, weight)]));
         compare(&score_card_bytes(11, 80, &[(4, 2, 1), (6, 1, weight)]));
     }

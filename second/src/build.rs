@@ -1,7 +1,8 @@
-//! Build: "Writing one condition", "Whole card" and "Scored queries".
+//! Build: "Writing one condition", "Whole card" and "Scored queries", all with
+//! "Constants near zero".
 
 use crate::card::{Card, Condition, Form, Relation};
-use crate::field::order_constants;
+use crate::field::{near_zero, order_constants};
 use crate::forecast::card_report;
 use crate::refusal::{self, Refusal};
 use crate::report::{cost, Depth, Report};
@@ -67,7 +68,10 @@ impl<'a> Writer<'a> {
     }
 
     fn write(&mut self, kind: Kind, a: u16, b: u16, depth: u16) -> Wire {
-        let gate = Gate { kind, a, b };
+        self.write_gate(Gate { kind, a, b }, depth)
+    }
+
+    fn write_gate(&mut self, gate: Gate, depth: u16) -> Wire {
         let number = self.gates;
         let start = table_bytes(number);
         self.table[start..start + RECORD_BYTES].copy_from_slice(&gate.record());
@@ -96,8 +100,8 @@ impl<'a> Writer<'a> {
         self.write(Kind::Sub, a.gate, b.gate, a.depth.max(b.depth))
     }
 
-    fn scale(&mut self, a: Wire, constant: u8) -> Wire {
-        self.write(Kind::Scale, a.gate, u16::from(constant), a.depth)
+    fn scale(&mut self, a: Wire, constant: i16) -> Wire {
+        self.write_gate(Gate::scale(a.gate, constant), a.depth)
     }
 
     fn flip(&mut self, a: Wire) -> Wire {
@@ -128,18 +132,20 @@ fn write_card(writer: &mut Writer, card: &Card) -> Wire {
 /// ADD(sum, it)."
 fn write_score(writer: &mut Writer, card: &Card, outputs: &[Wire]) -> Wire {
     let weights = card.conditions.iter().map(|condition| condition.weight);
-    write_sum(writer, outputs.iter().copied().zip(weights))
+    let constants = weights.map(|weight| near_zero(card.p, weight));
+    write_sum(writer, outputs.iter().copied().zip(constants))
 }
 
 /// The conditions in order, each in the next slots of both sides; their
 /// outputs.
 fn write_conditions(writer: &mut Writer, card: &Card) -> Vec<Wire> {
     // The constants of the prime serve all order conditions of the card.
-    let constants = if card.conditions.iter().any(|c| c.relation.is_order()) {
+    let numbers = if card.conditions.iter().any(|c| c.relation.is_order()) {
         order_constants(card.p)
     } else {
         Vec::new()
     };
+    let constants: Vec<i16> = numbers.iter().map(|&c| near_zero(card.p, c)).collect();
     let mut slot = 0;
     let mut outputs = Vec::with_capacity(card.conditions.len());
     for condition in &card.conditions {
@@ -153,7 +159,7 @@ fn write_conditions(writer: &mut Writer, card: &Card) -> Vec<Wire> {
 fn write_condition(
     writer: &mut Writer,
     p: u8,
-    constants: &[u8],
+    constants: &[i16],
     condition: &Condition,
     first_slot: usize,
 ) -> Wire {
@@ -236,7 +242,7 @@ fn write_powers(writer: &mut Writer, p: u8, z: Wire, powers: &mut Vec<Wire>) {
 /// "Then for i = 1, 3, .. p-2, p-1 a SCALE of z^i by c_i, each after the first
 /// followed by ADD(sum, it). The sum is L. Every digit but the lowest then
 /// FLIPs z^(p-1): E."
-fn order_digit(writer: &mut Writer, constants: &[u8], powers: &[Wire], is_lowest: bool) -> Order {
+fn order_digit(writer: &mut Writer, constants: &[i16], powers: &[Wire], is_lowest: bool) -> Order {
     let last = powers.len() - 1;
     let terms = (1..last).step_by(2).chain([last]).map(|i| powers[i]);
     let less = write_sum(writer, terms.zip(constants.iter().copied()));
@@ -250,7 +256,7 @@ fn order_digit(writer: &mut Writer, constants: &[u8], powers: &[Wire], is_lowest
 
 /// A SCALE of each gate by its constant, "each after the first followed by
 /// ADD(sum, it)".
-fn write_sum(writer: &mut Writer, terms: impl IntoIterator<Item = (Wire, u8)>) -> Wire {
+fn write_sum(writer: &mut Writer, terms: impl IntoIterator<Item = (Wire, i16)>) -> Wire {
     let mut sum: Option<Wire> = None;
     for (wire, constant) in terms {
         let term = writer.scale(wire, constant);

@@ -1,6 +1,6 @@
 //! The query builder: cards, gate tables, the plain run of a table, digit
 //! coding and a forecast, as the document on the builder's rules has them, and
-//! scored queries, as the request for them does.
+//! scored queries and constants near zero, as the requests for them do.
 
 pub mod build;
 pub mod card;

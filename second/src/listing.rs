@@ -4,7 +4,7 @@ use crate::build::build;
 use crate::forecast::forecast;
 use crate::refusal::Refusal;
 use crate::report::Report;
-use crate::table::{table_bytes, Table};
+use crate::table::{table_bytes, Gate, Kind, Table};
 use std::fmt::{Display, Formatter, Result as FormatResult, Write};
 
 /// "A gate line is number, kind, a, b. A refusal prints one line, as
@@ -32,8 +32,16 @@ fn card_listing(card: &[u8]) -> Result<String, Refusal> {
     let report = build(card, &mut bytes)?;
     let mut text = format!("{report}\n");
     for (number, gate) in Table::read(&bytes)?.gates().enumerate() {
-        let name = gate.kind.name();
-        writeln!(text, "{number} {name} {} {}", gate.a, gate.b).expect("a string takes all text");
+        let (name, a, b) = (gate.kind.name(), gate.a, listed_b(&gate));
+        writeln!(text, "{number} {name} {a} {b}").expect("a string takes all text");
     }
     Ok(text)
+}
+
+/// A SCALE's b is its constant, with its sign.
+fn listed_b(gate: &Gate) -> i32 {
+    match gate.kind {
+        Kind::Scale => i32::from(gate.constant()),
+        _ => i32::from(gate.b),
+    }
 }

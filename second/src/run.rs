@@ -39,8 +39,7 @@ fn gate_value(p: u8, gate: &Gate, left: &[u8], right: &[u8], lower: &[u8]) -> u8
         Kind::Right => right[a],
         Kind::Add => field::add(p, lower[a], lower[b]),
         Kind::Sub => field::sub(p, lower[a], lower[b]),
-        // The constant is below p, so it fits a byte.
-        Kind::Scale => field::mul(p, lower[a], gate.b as u8),
+        Kind::Scale => field::mul(p, lower[a], field::residue(p, gate.constant())),
         Kind::Flip => field::sub(p, 1, lower[a]),
         Kind::Mul => field::mul(p, lower[a], lower[b]),
     }

@@ -1,8 +1,8 @@
 //! Parts of the package against each other.
 
 use second::card::{card_bytes as card, score_card_bytes as score_card, Card, Form, Relation};
-use second::field::{half_range, PRIMES};
-use second::table::{Gate, Kind, Table};
+use second::field::{half_range, is_constant, near_zero, order_constants, residue, PRIMES};
+use second::table::{Gate, Head, Kind, Table};
 use second::{build, check, decode, encode, expected_output, forecast, run, trim, Random};
 
 const RELATIONS: [u8; 6] = [1, 2, 3, 4, 5, 6];
@@ -279,11 +279,10 @@ fn scores_end_with_scales_and_adds() {
             number += forecast(&card(bytes[2], 50, &[(record[2], record[3])]))
                 .unwrap()
                 .gates;
-            outputs.push((number - 1, u16::from(record[4])));
+            outputs.push((number - 1, near_zero(bytes[2], record[4])));
         }
-        for (place, (a, b)) in outputs.into_iter().enumerate() {
-            let kind = Kind::Scale;
-            expected.push(Gate { kind, a, b });
+        for (place, (a, weight)) in outputs.into_iter().enumerate() {
+            expected.push(Gate::scale(a, weight));
             number += 1;
             if place > 0 {
                 // The sum is the gate before the SCALE.
@@ -309,6 +308,165 @@ fn the_conditions_of_both_forms_have_the_same_gates() {
     assert_eq!(score.len(), shared + 5 * 8);
     assert_eq!(plain[..6], score[..6]);
     assert_eq!(plain[8..shared], score[8..shared]);
+}
+
+/// Each number below p has a constant near zero, which is that number modulo p.
+#[test]
+fn constants_read_back() {
+    for p in PRIMES {
+        for x in 0..p {
+            let constant = near_zero(p, x);
+            assert!(is_constant(p, constant));
+            assert_eq!((constant - i16::from(x)) % i16::from(p), 0);
+            assert_eq!(residue(p, constant), x);
+            assert_eq!(Gate::scale(0, constant).constant(), constant);
+        }
+    }
+}
+
+/// Every order digit has the constants of its prime, near zero.
+#[test]
+fn order_digits_have_their_constants() {
+    for p in PRIMES {
+        let bytes = built(&card(p, 50, &[(3, 2)]));
+        let gates = Table::read(&bytes).unwrap().gates();
+        let scales: Vec<Gate> = gates.filter(|gate| gate.kind == Kind::Scale).collect();
+        let numbers = order_constants(p);
+        assert_eq!(scales.len(), 2 * numbers.len());
+        for (gate, &x) in scales.iter().zip(numbers.iter().cycle()) {
+            let constant = gate.constant();
+            assert!(constant.abs() <= i16::from(p / 2));
+            assert_eq!((constant - i16::from(x)) % i16::from(p), 0);
+        }
+    }
+}
+
+/// A table of gates of all kinds, with constants of both signs.
+fn random_table(random: &mut Random) -> Vec<u8> {
+    let p = random.pick(&PRIMES);
+    let slots = 1 + random.byte_below(16);
+    let gates = 2 + random.below(60) as u16;
+    let weight = 50 + random.byte_below(51);
+    let head = Head {
+        p,
+        weight,
+        slots,
+        gates,
+    };
+    let mut bytes = head.record().to_vec();
+    for number in 0..gates {
+        let slot = u16::from(random.byte_below(slots));
+        let constant = i16::from(random.byte_below(p)) - i16::from(p / 2);
+        let mut lower = || random.below(u64::from(number.max(1))) as u16;
+        let (a, b) = (lower(), lower());
+        let kinds = if number == 0 { 2 } else { 9 };
+        let (kind, a, b) = match random.below(kinds) {
+            0 => (Kind::Left, slot, 0),
+            1 => (Kind::Right, slot, 0),
+            2 => (Kind::Add, a, b),
+            3 => (Kind::Sub, a, b),
+            4 => (Kind::Flip, a, 0),
+            5 => (Kind::Mul, a, a),
+            6 => (Kind::Mul, a, b),
+            _ => (Kind::Scale, a, Gate::scale(a, constant).b),
+        };
+        bytes.extend(Gate { kind, a, b }.record());
+    }
+    bytes
+}
+
+/// The gates of a table, each SCALE with its old constant: the number below p
+/// that is equal to the new one modulo p.
+fn old_gates(table: &Table) -> Vec<Gate> {
+    let p = i16::from(table.head.p);
+    let old = |mut gate: Gate| {
+        if gate.kind == Kind::Scale {
+            let constant = gate.constant();
+            let x = (0..p).find(|x| (x - constant) % p == 0).unwrap();
+            gate.b = x as u16;
+        }
+        gate
+    };
+    table.gates().map(old).collect()
+}
+
+/// The kinds of the document, "SCALE gate a times constant b<p" among them.
+fn old_values(p: u8, gates: &[Gate], left: &[u8], right: &[u8]) -> Vec<u8> {
+    let mut values: Vec<u8> = Vec::new();
+    for gate in gates {
+        let value = |operand: u16| u32::from(values[usize::from(operand)]);
+        let p = u32::from(p);
+        let sum = match gate.kind {
+            Kind::Left => u32::from(left[usize::from(gate.a)]),
+            Kind::Right => u32::from(right[usize::from(gate.a)]),
+            Kind::Add => value(gate.a) + value(gate.b),
+            Kind::Sub => value(gate.a) + p - value(gate.b),
+            Kind::Scale => value(gate.a) * u32::from(gate.b),
+            Kind::Flip => 1 + p - value(gate.a),
+            Kind::Mul => value(gate.a) * value(gate.b),
+        };
+        values.push((sum % p) as u8);
+    }
+    values
+}
+
+/// Products, squares, cost and depth by the document, in which a SCALE's
+/// constant has no part.
+fn old_report(weight: u8, gates: &[Gate]) -> (u16, u16, u32, u16) {
+    let (mut products, mut squares) = (0, 0);
+    let mut depths: Vec<u16> = Vec::new();
+    for gate in gates {
+        let depth = |operand: u16| depths[usize::from(operand)];
+        depths.push(match gate.kind {
+            Kind::Left | Kind::Right => 0,
+            Kind::Scale | Kind::Flip => depth(gate.a),
+            Kind::Add | Kind::Sub => depth(gate.a).max(depth(gate.b)),
+            Kind::Mul => {
+                let is_square = gate.a == gate.b;
+                *(if is_square {
+                    &mut squares
+                } else {
+                    &mut products
+                }) += 1;
+                1 + depth(gate.a).max(depth(gate.b))
+            }
+        });
+    }
+    let cost = 100 * u32::from(products) + u32::from(weight) * u32::from(squares);
+    (products, squares, cost, depths[depths.len() - 1])
+}
+
+/// "Gate values, depth and cost are the same as under the old constants."
+#[test]
+fn old_constants_gave_the_same() {
+    let mut random = Random::new(8);
+    let mut changed = 0;
+    for round in 0..1_000 {
+        let bytes = match round % 4 {
+            0 => built(&random_card(&mut random)),
+            _ => random_table(&mut random),
+        };
+        let table = Table::read(&bytes).unwrap();
+        let head = table.head;
+        let old = old_gates(&table);
+        changed += usize::from(!table.gates().eq(old.iter().copied()));
+        let left = random.bytes_below(head.p, usize::from(head.slots));
+        let right = random.bytes_below(head.p, usize::from(head.slots));
+        let mut work = vec![0; old.len()];
+        run(&bytes, &left, &right, &mut work).unwrap();
+        let values = old_values(head.p, &old, &left, &right);
+        assert_eq!(work, values, "{bytes:?}");
+        let report = check(&bytes).unwrap();
+        let now = (
+            report.products,
+            report.squares,
+            report.cost.0,
+            report.depth.0,
+        );
+        assert_eq!(now, old_report(head.weight, &old), "{bytes:?}");
+    }
+    // Most tables have a constant below zero.
+    assert!(changed > 800, "{changed}");
 }
 
 #[test]

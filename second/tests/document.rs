@@ -1,8 +1,9 @@
 //! The cases that the document gives, starred ones too, and the rules of scored
-//! queries.
+//! queries and of constants near zero.
 
 use second::card::{card_bytes as card, score_card_bytes as score_card};
 use second::field::{order_constants, PRIMES};
+use second::table::{Kind, Table};
 use second::{build, check, decode, encode, forecast, listing, run, Cost, Depth, Refusal, Report};
 
 const BENCH: [u8; 10] = [0xC5, 0x48, 0x03, 0x4B, 1, 0, 0xC5, 0x51, 1, 1];
@@ -38,11 +39,12 @@ fn refused(card: &[u8], number: Refusal) {
     assert_eq!(build(card, &mut []), Err(number));
 }
 
+/// "In document 01's whole listing line 5 becomes `5 SCALE 3 -1`."
 #[test]
 fn bench_listing() {
     let text = "gates 7 products 0 squares 1 cost 75 depth 1\n\
                 0 LEFT 0 0\n1 RIGHT 0 0\n2 SUB 0 1\n3 MUL 2 2\n\
-                4 SCALE 2 1\n5 SCALE 3 2\n6 ADD 4 5\n";
+                4 SCALE 2 1\n5 SCALE 3 -1\n6 ADD 4 5\n";
     assert_eq!(listing(&BENCH), text);
     assert_eq!(listing(&BENCH[..9]), "refused 7\n");
     assert_eq!(listing(&[]), "refused 1\n");
@@ -69,6 +71,74 @@ fn counts() {
 fn constants() {
     assert_eq!(order_constants(5), [4, 3, 3]);
     assert_eq!(order_constants(7), [3, 1, 6, 4]);
+    assert_eq!(written_constants(5), [-1, -2, -2]);
+    assert_eq!(written_constants(7), [3, 1, -1, -3]);
+}
+
+/// The constants of the SCALEs of a "<" of 1.
+fn written_constants(p: u8) -> Vec<i16> {
+    let bytes = built(&card(p, 50, &[(1, 1)]));
+    let gates = Table::read(&bytes).unwrap().gates();
+    let scales = gates.filter(|gate| gate.kind == Kind::Scale);
+    scales.map(|gate| gate.constant()).collect()
+}
+
+/// A SCALE of a LEFT; its b is put at the end.
+fn scale_table(p: u8, b: u16) -> [u8; 24] {
+    let mut table = [
+        0x47, 0x48, p, 50, 1, 0, 2, 0, //
+        0x47, 0x54, 1, 0, 0, 0, 0, 0, //
+        0x47, 0x54, 5, 0, 0, 0, 0, 0,
+    ];
+    table[22..].copy_from_slice(&b.to_le_bytes());
+    table
+}
+
+/// "A signed 16-bit number from -(p-1)/2 to (p-1)/2, two's complement, equal to
+/// the old constant modulo p": of all b just these pass, and the gate of value 1
+/// is scaled to each number below p by one of them.
+#[test]
+fn each_number_has_one_constant() {
+    for p in PRIMES {
+        let most = i32::from(p - 1) / 2;
+        let mut constants = vec![None; usize::from(p)];
+        for b in 0..=u16::MAX {
+            let constant = i32::from(b) - if b < 0x8000 { 0 } else { 0x10000 };
+            let mut work = [0; 2];
+            let outcome = run(&scale_table(p, b), &[1], &[0], &mut work);
+            assert_eq!(check(&scale_table(p, b)).err(), outcome.err());
+            if constant < -most || constant > most {
+                assert_eq!(outcome, Err(17), "{p} {constant}");
+            } else {
+                let number = outcome.unwrap();
+                assert_eq!((i32::from(number) - constant) % i32::from(p), 0);
+                assert_eq!(constants[usize::from(number)].replace(constant), None);
+            }
+        }
+        assert!(constants.iter().all(Option::is_some));
+    }
+}
+
+/// A constant above (p-1)/2, as tables had them, is turned away.
+#[test]
+fn old_tables() {
+    let mut table = built(&BENCH);
+    assert_eq!(table[54..56], [0xFF, 0xFF]);
+    table[54..56].copy_from_slice(&[2, 0]);
+    assert_eq!(check(&table), Err(17));
+    assert_eq!(run(&table, &[0], &[1], &mut [0; 7]), Err(17));
+}
+
+/// "Zero constants are written too", as 0.
+#[test]
+fn zero_constants() {
+    // p=17 is the smallest prime that has one, at i = 9.
+    assert_eq!(order_constants(17)[4], 0);
+    assert_eq!(written_constants(17)[4], 0);
+    let text = listing(&card(17, 50, &[(1, 1)]));
+    let scales: Vec<&str> = text.lines().filter(|line| line.contains("SCALE")).collect();
+    assert!(scales[4].ends_with(" 0"), "{text}");
+    assert!(!text.contains("-0"));
 }
 
 #[test]
@@ -118,8 +188,13 @@ fn wrong_turns() {
 fn score_listing() {
     let text = "gates 8 products 0 squares 1 cost 75 depth 1\n\
                 0 LEFT 0 0\n1 RIGHT 0 0\n2 SUB 0 1\n3 MUL 2 2\n\
-                4 SCALE 2 1\n5 SCALE 3 2\n6 ADD 4 5\n7 SCALE 6 1\n";
+                4 SCALE 2 1\n5 SCALE 3 -1\n6 ADD 4 5\n7 SCALE 6 1\n";
     assert_eq!(listing(&SCORE_BENCH), text);
+    // Weights are near zero too: 125 and 126 are the ends of the range at 251.
+    for (weight, last) in [(125, "125"), (126, "-125"), (250, "-1")] {
+        let text = listing(&score_card(251, 50, &[(5, 1, weight)]));
+        assert!(text.ends_with(&format!("\n16 SCALE 15 {last}\n")), "{text}");
+    }
     assert_eq!(listing(&SCORE_BENCH[..11]), "refused 7\n");
 }
 

@@ -46,7 +46,7 @@ fn the_example() {
     let script = "build 64 C548034B0100C5510101\ncheck\nrun 8 00 01\n\
                   encode 5 2 8 3\ndecode 5 0202\ntrim\ncut 63\ntrim\nbuild 9 -\n";
     let expected = "build 64 C548034B0100C5510101: \
-        gates 7 products 0 squares 1 cost 75 depth 1, lent checksum 35072\n\
+        gates 7 products 0 squares 1 cost 75 depth 1, lent checksum 35754\n\
         check: gates 7 products 0 squares 1 cost 75 depth 1\n\
         run 8 00 01: output 1, lent 0001020102020109\n\
         encode 5 2 8 3: done, lent 020207\n\
@@ -204,15 +204,12 @@ fn each_field_of_a_table_is_turned_away() {
     }
 }
 
-/// Mark, spare and kind of a gate's word, broken alone and together: the first
-/// in this order is told.
-#[test]
-fn each_verdict_on_a_word_comes_up() {
-    let script = cases();
-    let text = answers(&script);
-    let mut words = BTreeSet::new();
+/// The tables that lines `table` and `set` make, wherever one is checked, and
+/// the refusal's number.
+fn checked_tables(script: &str, text: &str) -> Vec<(Vec<u8>, Option<u8>)> {
+    let mut checked = Vec::new();
     let mut table = Vec::new();
-    for (line, answer) in lines_with_answers(&script, &text) {
+    for (line, answer) in lines_with_answers(script, text) {
         let mut parts = line.split(' ');
         match parts.next() {
             Some("table") => table = bytes(parts.next().unwrap()),
@@ -223,23 +220,89 @@ fn each_verdict_on_a_word_comes_up() {
                     *byte = parts.next().unwrap().parse().unwrap();
                 }
             }
-            // The tables of two gates.
-            Some("check") if table.len() == 24 && table[6] == 2 => {
-                let mark = table[16..18] != [0x47, 0x54];
-                let (spare, kind) = (table[19] != 0, !(1..8).contains(&table[18]));
-                let first = match (mark, spare, kind) {
-                    (true, _, _) => Some(2),
-                    (_, true, _) => Some(5),
-                    (_, _, true) => Some(16),
-                    _ => None,
-                };
-                assert_eq!(refusal(answer.unwrap()), first, "{table:02X?}");
-                words.insert((mark, spare, kind));
+            Some("check") if !table.is_empty() => {
+                checked.push((table.clone(), refusal(answer.unwrap())));
             }
             _ => {}
         }
     }
+    checked
+}
+
+/// Mark, spare and kind of a gate's word, broken alone and together: the first
+/// in this order is told.
+#[test]
+fn each_verdict_on_a_word_comes_up() {
+    let script = cases();
+    let text = answers(&script);
+    let mut words = BTreeSet::new();
+    for (table, number) in checked_tables(&script, &text) {
+        // The tables of two gates.
+        if table.len() == 24 && table[6] == 2 {
+            let mark = table[16..18] != [0x47, 0x54];
+            let (spare, kind) = (table[19] != 0, !(1..8).contains(&table[18]));
+            let first = match (mark, spare, kind) {
+                (true, _, _) => Some(2),
+                (_, true, _) => Some(5),
+                (_, _, true) => Some(16),
+                _ => None,
+            };
+            assert_eq!(number, first, "{table:02X?}");
+            words.insert((mark, spare, kind));
+        }
+    }
     assert_eq!(words.len(), 8);
+}
+
+/// Two SCALEs of a LEFT: 17 is told just where a constant is out of range. Both
+/// sides of each border come up alone, beside a constant that is in range.
+#[test]
+fn each_border_of_a_constant_comes_up() {
+    let script = cases();
+    let text = answers(&script);
+    let mut alone = BTreeSet::new();
+    for (table, number) in checked_tables(&script, &text) {
+        let scale = [0x47, 0x54, 5, 0, 0, 0];
+        if table.len() != 32 || table[16..22] != scale || table[24..30] != scale {
+            continue;
+        }
+        let most = i32::from(table[2] / 2);
+        let constant = |place| i32::from(i16::from_le_bytes([table[place], table[place + 1]]));
+        let (first, last) = (constant(22), constant(30));
+        let (fits, last_fits) = (first.abs() <= most, last.abs() <= most);
+        assert_eq!(number, (!fits || !last_fits).then_some(17), "{table:02X?}");
+        if last_fits {
+            alone.insert((table[2], first));
+        }
+        if fits {
+            alone.insert((table[2], last));
+        }
+    }
+    for p in [3, 5, 7, 127, 251] {
+        let most = i32::from(p) / 2;
+        for constant in [most, most + 1, -most, -most - 1] {
+            assert!(alone.contains(&(p, constant)), "{p} {constant}");
+        }
+    }
+    for constant in [0, -1, 250, 251, 256, -256, 32_767, -32_767, -32_768] {
+        assert!(alone.contains(&(251, constant)), "{constant}");
+    }
+}
+
+/// Runs meet constants of each sign at the ends of the range.
+#[test]
+fn the_ends_of_constants_are_run() {
+    let text = answers(&cases());
+    // The left value is -1, so each end makes it the other one.
+    for run in [
+        "run 3 02 00: output 1, lent 020201\n",
+        "run 3 04 00: output 2, lent 040302\n",
+        "run 3 06 00: output 3, lent 060403\n",
+        "run 3 7E 00: output 63, lent 7E403F\n",
+        "run 3 FA 00: output 125, lent FA7E7D\n",
+    ] {
+        assert!(text.contains(run), "{run}");
+    }
 }
 
 /// Each kind's operands a and b are turned away, and let pass.

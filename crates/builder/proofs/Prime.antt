@@ -1,16 +1,25 @@
--- The prime of a card that was read: a modulus, and one for which any list to work in is long enough.
+-- The prime of a card that was read: a modulus, one for which any list to work in is long enough, and above every weight of a score card.
 -- Assumes nothing.
-use mathlib.Core.Path.{sym, ap, subst}
+use mathlib.Core.Path.{_≡_, sym, ap, subst, _∙_}
 use mathlib.Core.List.{List}
 use Prim.Native.Nat.{ℕ, _+_, _/_, _≤_, _<_}
 use native.Mathlib.Omega.{arith}
+use Rattle.field.specs.Modular.{residue}
+use Rattle.field.proofs.Modular.{residue-small}
+use Rattle.circuit.specs.Constant.{code, signed, bitsOf}
+use Rattle.circuit.specs.Every.{Every}
+use Rattle.circuit.proofs.Constant.{bits-code}
+use Rattle.circuit.proofs.Every.{every-drop}
 use Rattle.comparison.specs.OrderDigit.{powerCount}
+use Rattle.query.specs.Card.{AsksScore, totalWeight}
+use Rattle.query.specs.Form.{Scored, isScored}
 use Rattle.query.proofs.CardFacts.{accepted-card}
+use Rattle.query.proofs.Score.{each-below}
 use Rattle.constants.specs.Constants.{mostConstants}
 use Rattle.powers.specs.Powers.{mostPowers}
 use Rattle.card.specs.declared.CardHead.{CardHead}
-use Rattle.card.specs.Conditions.{ReadAs}
-use Rattle.card.specs.Parts.{Summary}
+use Rattle.card.specs.Conditions.{ReadAs, conditionsOf, IsWeight}
+use Rattle.card.specs.Parts.{formIs, Summary}
 use Rattle.card.proofs.ReadAs.{known-as}
 use Rattle.writer.specs.Modulus.{Modulus}
 
@@ -23,3 +32,19 @@ prime-suits bytes head e =
     let known = accepted-card bytes (all .card) (all .reads) .prime in
     subst Suits (sym (ap (λ (s : Summary). s .prime) (all .says)))
     ((known .low, known .odd, omega (arith, known .high)), omega (arith, known .high), omega (arith, known .high))
+
+-- a weight of a score card is below it, and so is read back from its sixteen bits
+pub weight-read : (bytes : List ℕ) (head : CardHead) (k w : ℕ) → ReadAs bytes head → formIs (head .form) ≡ Scored → IsWeight (conditionsOf bytes) k w
+    → signed (bitsOf (head .prime) (residue (head .prime) w)) ≡ code (head .prime) w
+weight-read bytes head k w e scored is =
+    let all = known-as bytes head e in
+    let known = accepted-card bytes (all .card) (all .reads) in
+    let p : head .prime ≡ all .card .prime = ap (λ (s : Summary). s .prime) (all .says) in
+    let form : all .card .form ≡ Scored = sym (ap (λ (s : Summary). s .form) (all .says)) ∙ scored in
+    let asks : AsksScore (all .card) = ap isScored form in
+    let below : totalWeight (conditionsOf bytes) < head .prime = omega (arith, ap totalWeight (all .conditions), p, known .weights asks) in
+    let each = every-drop (λ (v : ℕ). v < head .prime) k _ (each-below (head .prime) (conditionsOf bytes) below) in
+    let here : w < head .prime = subst (Every (λ (v : ℕ). v < head .prime)) is each .0 in
+    let modulus = prime-suits bytes head e .0 in
+    ap (λ (v : ℕ). signed (bitsOf (head .prime) v)) (residue-small (head .prime) w here)
+    ∙ bits-code (head .prime) w (modulus .1) (omega (arith, modulus)) here .1

@@ -6,6 +6,7 @@ use mathlib.Core.List.{List, [], _∷_, _++_, map}
 use Prim.Native.Nat.{ℕ, suc, _+_, _*_, _≤_, _<_, max}
 use native.Mathlib.Omega.{arith}
 use lib.ListN.{length, drop, drop-of-length-le, length-map}
+use Rattle.circuit.specs.Constant.{code}
 use Rattle.circuit.specs.Gate.{Gate, Scale, Add}
 use Rattle.circuit.specs.Segment as segment
 use Rattle.circuit.specs.Sums.{laterSum, sumFrom, sumGate, largest}
@@ -62,7 +63,7 @@ module _ (p : ℕ) (cs : List Condition) (outputs : List segment.Node) where
     deeper = ap (λ (fs : List segment.Node). largest (map level fs)) (sym at)
 
     next-term : (next sum : ℕ) → termsFrom next sum k
-        ≡ (Scale (f .gate) w ∷ Add sum next ∷ []) ++ termsFrom (next + 2) (next + 1) (k + 1)
+        ≡ (Scale (f .gate) (code p w) ∷ Add sum next ∷ []) ++ termsFrom (next + 2) (next + 1) (k + 1)
     unfolding laterSum scaledOutputs
     next-term next sum =
         let one : next + 1 ≡ suc next = omega arith in
@@ -73,7 +74,7 @@ module _ (p : ℕ) (cs : List Condition) (outputs : List segment.Node) where
     -- one term more
     pub adds : (w : ℕ) (f : segment.Node) → IsWeight cs k w → drop k outputs ≡ f ∷ drop (k + 1) outputs → k < length cs
         → (table′ : List ℕ) (sum′ : Written) → length table′ ≡ length table
-        → Wrote table (sum .pen) (Scale (f .gate) w ∷ Add (sum .node .gate) (sum .pen .next) ∷ []) table′ (sum′ .pen)
+        → Wrote table (sum .pen) (Scale (f .gate) (code p w) ∷ Add (sum .node .gate) (sum .pen .next) ∷ []) table′ (sum′ .pen)
         → Moved (sum .pen) 2 (sum′ .pen)
         → (sum′ .node .gate ≡ sum .pen .next + 1) × (sum′ .node .depth ≡ max (sum .node .depth) (f .depth))
         → Adds table₀ sum₀ table′ sum′ (k + 1)
@@ -91,7 +92,7 @@ module _ (p : ℕ) (cs : List Condition) (outputs : List segment.Node) where
 
     -- all are written, after the first one before the loop
     pub ends : length outputs ≡ length cs → length cs ≤ k → (w : ℕ) (f : segment.Node) → IsWeight cs 0 w → drop 0 outputs ≡ f ∷ drop 1 outputs
-        → (table₁ : List ℕ) (pen : Pen) → Wrote table₁ pen (Scale (f .gate) w ∷ []) table₀ (sum₀ .pen)
+        → (table₁ : List ℕ) (pen : Pen) → Wrote table₁ pen (Scale (f .gate) (code p w) ∷ []) table₀ (sum₀ .pen)
         → (sum₀ .node .gate ≡ pen .next) × (sum₀ .node .depth ≡ f .depth)
         → Wrote table₁ pen (scoreSum p cs (pen .next) outputs .gates) table (sum .pen)
         × (nodeIs (sum .node) ≡ scoreSum p cs (pen .next) outputs .output)
@@ -102,7 +103,7 @@ module _ (p : ℕ) (cs : List Condition) (outputs : List segment.Node) where
         let later = remains-as (ap (λ (vs : List ℕ). laterSum (sum .pen .next) (sum .node .gate) (scaledOutputs p vs (drop k outputs))) no-term) (a .remains) .gives table (sum .pen) none in
         let next : suc (pen .next) ≡ sum₀ .pen .next = omega (arith, wrote .number) in
         let all = ap₂ (λ (vs : List ℕ) (fs : List segment.Node). sumFrom (pen .next) (scaledOutputs p vs fs)) is at in
-        let split = all ∙ ap₂ (λ (n g : ℕ). Scale (f .gate) w ∷ termsFrom n g 1) next (sym (first .0)) in
+        let split = all ∙ ap₂ (λ (n g : ℕ). Scale (f .gate) (code p w) ∷ termsFrom n g 1) next (sym (first .0)) in
         let gate : sum .node .gate ≡ sumGate (pen .next) (length outputs) = omega (arith, a .place, a .turns, wrote .number) in
         let deep : sum .node .depth ≡ largest (map level outputs) = omega (arith, first, a .deepest, deeper 0 w f is at, ap (λ (fs : List segment.Node). largest (map level fs)) no-output) in
         (same-gates (sym split) (then wrote later), ap₂ (λ (g d : ℕ). nodeIs (record { gate = g; depth = d })) gate deep)

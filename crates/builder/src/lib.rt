@@ -37,7 +37,7 @@ fn put_conditions(
     card: &[u8],
     head: CardHead,
     table: &mut [u8],
-    constants: &[u8],
+    constants: &[u16],
     powers: &[u16],
     gates: &mut [u16],
     depths: &mut [u16],
@@ -90,8 +90,8 @@ fn has_order(card: &[u8], head: CardHead) -> bool
     false
 }
 
-// The order constants of a prime and the depths of the powers, which only conditions with an order relation ask for.
-fn prepare_order(card: &[u8], head: CardHead, constants: &mut [u8], powers: &mut [u16])
+// The order constants of a prime, as SCALEs have them, and the depths of the powers, which only conditions with an order relation ask for.
+fn prepare_order(card: &[u8], head: CardHead, constants: &mut [u16], powers: &mut [u16])
     requires { ⌜ ReadAs (now card) head × (mostConstants ≤ length (now constants)) × (mostPowers ≤ length (now powers)) ⌝ }
     ensures { λ _. ⌜ Ready (head .prime) (conditionsOf (now (card .entry))) (now (constants .exit)) (now (powers .exit)) ⌝ }
 {
@@ -111,11 +111,13 @@ fn put_score(
     depths: &[u16],
 ) -> Written
     requires { ⌜ Endable (now card) head (endSize Scored (head .count)) (now table) pen (now gates) (now depths) ⌝ }
+    requires { ⌜ formIs (head .form) ≡ Scored ⌝ }
     ensures wrote { λ r. ⌜ Wrote (now (table .entry)) pen (endFrom Scored (now (card .entry)) head pen (now (gates .entry)) (now (depths .entry)) .gates) (now (table .exit)) (r .pen) ⌝ }
     ensures output { λ r. ⌜ nodeIs (r .node) ≡ endFrom Scored (now (card .entry)) head pen (now (gates .entry)) (now (depths .entry)) .output ⌝ }
 {
+    let b = constants::bits_of(card::weight_of(card, head, 0) as u16, head.prime);
     let mut sum = Written {
-        pen: writer::put_term(table, pen, gates[0], card::weight_of(card, head, 0)),
+        pen: writer::put_scale(table, pen, gates[0], b),
         node: Node {
             gate: pen.next,
             depth: depths[0],
@@ -124,12 +126,12 @@ fn put_score(
     let count = arithmetic::wide(head.count);
     let mut k = 1;
     while k < count {
-        let weight = card::weight_of(card, head, k);
+        let b = constants::bits_of(card::weight_of(card, head, k) as u16, head.prime);
         let output = Node {
             gate: gates[k],
             depth: depths[k],
         };
-        sum = writer::add_term(table, sum.pen, sum.node, output, weight);
+        sum = writer::add_term(table, sum.pen, sum.node, output, b);
         k += 1;
     }
     sum
@@ -179,7 +181,7 @@ fn write_table(
     head: CardHead,
     count: u16,
     table: &mut [u8],
-    constants: &mut [u8],
+    constants: &mut [u16],
     powers: &mut [u16],
     gates: &mut [u16],
     depths: &mut [u16],
@@ -206,7 +208,7 @@ fn build_read(card: &[u8], head: CardHead, table: &mut [u8]) -> Reported
     if table.len() < records::RECORD * (told.gates as usize + 1) {
         return Reported::Refused(Refusal::TableBufferTooSmall);
     }
-    let mut constants = [0u8; constants::MOST_CONSTANTS];
+    let mut constants = [0u16; constants::MOST_CONSTANTS];
     let mut powers = [0u16; powers::MOST_POWERS];
     let mut gates = [0u16; card::MOST_CONDITIONS];
     let mut depths = [0u16; card::MOST_CONDITIONS];

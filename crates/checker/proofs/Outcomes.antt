@@ -1,27 +1,30 @@
 -- What Check and Trim answer, from what the head and the gates were read as.
 -- Assumes nothing.
-use mathlib.Core.Path.{_≡_, refl, sym, ap, _∙_}
+use mathlib.Core.Path.{_≡_, refl, sym, ap, subst, _∙_}
 use mathlib.Core.List.{List, []}
-use Prim.Native.Nat.{ℕ, _+_, _*_, _≤_}
+use Prim.Native.Nat.{ℕ, _+_, _*_, _%_, _≤_}
 use lib.ListN.{length, take, drop}
 use Rattle.answer.specs.Outcome.{Answer, refused, accepted, onAnswer}
 use Rattle.answer.specs.Report.{Report}
 use Rattle.answer.proofs.Outcome.{answered, accepted-same}
+use Rattle.field.proofs.Primes.{listed-is-odd-prime}
 use Rattle.field.proofs.Tests.{in-range}
 use Rattle.circuit.specs.Gate.{Gate}
 use Rattle.circuit.specs.Outcomes.{checking, trimming}
-use Rattle.circuit.specs.Reading.{readGates, countOf, readHead, reading}
+use Rattle.circuit.specs.Reading.{readGates, headOf, countOf, readHead, reading}
 use Rattle.circuit.specs.Report.{report}
 use Rattle.circuit.specs.Table.{Head, Table, mostGates}
 use Rattle.circuit.proofs.Reading.{heads, reads}
 use Rattle.checker.specs.Reporting.{reporting, gatesRead}
 
--- the gate count of an accepted head, and the room for its records
+-- the gate count of an accepted head, the room for its records, and that its prime is odd
 pub counted : (bytes : List ℕ) (head : Head) → readHead bytes ≡ accepted head
-    → (1 ≤ countOf bytes) × (countOf bytes ≤ mostGates) × (8 * (countOf bytes + 1) ≤ length bytes)
+    → (1 ≤ countOf bytes) × (countOf bytes ≤ mostGates) × (8 * (countOf bytes + 1) ≤ length bytes) × (head .prime % 2 ≡ 1)
 counted bytes head e =
-    let h = heads bytes head e .0 in
-    let range = in-range (countOf bytes) 1 mostGates (h .count) in (range .0, range .1, h .room)
+    let h = heads bytes head e in
+    let range = in-range (countOf bytes) 1 mostGates (h .0 .count) in
+    let odd = listed-is-odd-prime (headOf bytes .prime) .0 (h .0 .prime) .odd in
+    (range .0, range .1, h .0 .room, subst (λ (head : Head). head .prime % 2 ≡ 1) (h .1) odd)
 
 pub head-refused : (bytes : List ℕ) (n : ℕ) → readHead bytes ≡ refused n → refused n ≡ checking bytes
 head-refused bytes n e = rw e

@@ -5,13 +5,14 @@ use Rattle.field.specs.Modular.{residue}
 use Rattle.field.specs.Primes.{member, primes, listed}
 use Rattle.digits.specs.Number.{allBelow}
 use Rattle.circuit.specs.Bench.{BenchReports, BenchOutputs, BenchRun}
+use Rattle.circuit.specs.Constant.{signed}
 use Rattle.circuit.specs.Count.{counted, count}
 use Rattle.circuit.specs.Meaning.{interpret}
 use Rattle.circuit.specs.Reading.{readGates}
 use Rattle.circuit.specs.Table.{gatesBytes}
 
 pub bench-reports : BenchReports
-unfolding listed member primes gatesBytes readGates interpret counted count
+unfolding listed member primes signed gatesBytes readGates interpret counted count
 bench-reports = (refl, refl)
 
 pub bench-outputs : BenchOutputs
@@ -19,5 +20,5 @@ unfolding interpret residue
 bench-outputs = (refl, refl)
 
 pub bench-run : BenchRun
-unfolding listed member primes allBelow gatesBytes readGates interpret residue
+unfolding listed member primes allBelow signed gatesBytes readGates interpret residue
 bench-run = refl

@@ -33,7 +33,7 @@ module _ (p : ℕ) (left right : List ℕ) (some : 0 < p) (lefts : allBelow p le
   value-below E (Right a) = below-at p right a some rights
   value-below E (Add a b) = residue-below p _ some
   value-below E (Sub a b) = residue-below p _ some
-  value-below E (Scale a b) = residue-below p _ some
+  value-below E (Scale a c) = residue-below p _ some
   value-below E (Flip a) = residue-below p _ some
   value-below E (Mul a b) = residue-below p _ some
 
@@ -56,7 +56,7 @@ depth-below E k low (Left a) n = zero-le
 depth-below E k low (Right a) n = zero-le
 depth-below E k low (Add a b) n = omega (arith, low a (n .0), low b (n .1))
 depth-below E k low (Sub a b) n = omega (arith, low a (n .0), low b (n .1))
-depth-below E k low (Scale a b) n = omega (arith, low a n)
+depth-below E k low (Scale a c) n = omega (arith, low a n)
 depth-below E k low (Flip a) n = omega (arith, low a n)
 depth-below E k low (Mul a b) n = omega (arith, low a (n .0), low b (n .1))
 

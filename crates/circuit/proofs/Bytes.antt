@@ -16,6 +16,7 @@ use Rattle.circuit.specs.Constant.{isConstant}
 use Rattle.circuit.specs.Gate.{Gate, Left, Right, Add, Sub, Scale, Flip, Mul, fields, gateBytes}
 use Rattle.circuit.specs.Promises.{TableBytes}
 use Rattle.circuit.specs.Table.{Head, leftSlots, rightSlots, headBytes, gatesBytes, leastWeight, mostWeight, mostGates, fits, allFit}
+use Rattle.circuit.proofs.Constant.{twos-complement}
 use Rattle.circuit.proofs.Fitting.{two-below, fit-cons}
 use Rattle.circuit.proofs.WellFormed.{well-formed}
 
@@ -32,9 +33,9 @@ fields-small head k (Left a) w t = omega (arith, w .1, ltb-true a (leftSlots hea
 fields-small head k (Right a) w t = omega (arith, w .2, ltb-true a (rightSlots head) t)
 fields-small head k (Add a b) w t = omega (arith, w .3, two-below a b k t)
 fields-small head k (Sub a b) w t = omega (arith, w .3, two-below a b k t)
-fields-small head k (Scale a b) w t =
-    let s = both (ltb a k) (isConstant (head .prime) b) t in
-    omega (arith, w .0, w .3, ltb-true a k (s .0), ltb-true b (head .prime) (s .1))
+fields-small head k (Scale a c) w t =
+    let s = both (ltb a k) (isConstant (head .prime) c) t in
+    omega (arith, w .3, ltb-true a k (s .0), twos-complement .0 (head .prime) c (w .0) (s .1) .0)
 fields-small head k (Flip a) w t = omega (arith, w .3, ltb-true a k t)
 fields-small head k (Mul a b) w t = omega (arith, w .3, two-below a b k t)
 

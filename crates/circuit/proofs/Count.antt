@@ -20,6 +20,13 @@ unfolding count
 count-none test gate none [] = refl
 count-none test gate none (x ∷ xs) = rw (none x) (omega (arith, count-none test gate none xs))
 
+-- others in the place of gates, each passing the test where its gate does
+pub count-map : (test : Gate → Bool) (f : Gate → Gate) → ((g : Gate) → test (f g) ≡ test g) → (gs : List Gate)
+    → count test (map f gs) ≡ count test gs
+unfolding count
+count-map test f same [] = refl
+count-map test f same (g ∷ gs) = rw (same g, count-map test f same gs)
+
 -- what is counted of a finished table: its records
 pub all-counted : (gates : List Gate) → (products gates ≡ count isProduct gates) × (squares gates ≡ count isSquare gates)
 unfolding counted

@@ -21,7 +21,7 @@ Named k (Left a) = Unit {0}
 Named k (Right a) = Unit {0}
 Named k (Add a b) = (a < k) × (b < k)
 Named k (Sub a b) = (a < k) × (b < k)
-Named k (Scale a b) = a < k
+Named k (Scale a c) = a < k
 Named k (Flip a) = a < k
 Named k (Mul a b) = (a < k) × (b < k)
 
@@ -38,7 +38,7 @@ named head k (Left a) t = tt
 named head k (Right a) t = tt
 named head k (Add a b) t = two-below a b k t
 named head k (Sub a b) t = two-below a b k t
-named head k (Scale a b) t = ltb-true a k (both (ltb a k) (isConstant (head .prime) b) t .0)
+named head k (Scale a c) t = ltb-true a k (both (ltb a k) (isConstant (head .prime) c) t .0)
 named head k (Flip a) t = ltb-true a k t
 named head k (Mul a b) t = two-below a b k t
 
@@ -59,7 +59,7 @@ Fitted head k (Left a) = a < leftSlots head
 Fitted head k (Right a) = a < rightSlots head
 Fitted head k (Add a b) = (a < k) × (b < k)
 Fitted head k (Sub a b) = (a < k) × (b < k)
-Fitted head k (Scale a b) = (a < k) × (isConstant (head .prime) b ≡ true)
+Fitted head k (Scale a c) = (a < k) × (isConstant (head .prime) c ≡ true)
 Fitted head k (Flip a) = a < k
 Fitted head k (Mul a b) = (a < k) × (b < k)
 
@@ -76,7 +76,7 @@ one-fits head k (Left a) h = lt-ltb _ _ h
 one-fits head k (Right a) h = lt-ltb _ _ h
 one-fits head k (Add a b) h = two-fit a b k h
 one-fits head k (Sub a b) h = two-fit a b k h
-one-fits head k (Scale a b) h = rw (lt-ltb a k (h .0)) (h .1)
+one-fits head k (Scale a c) h = rw (lt-ltb a k (h .0)) (h .1)
 one-fits head k (Flip a) h = lt-ltb _ _ h
 one-fits head k (Mul a b) h = two-fit a b k h
 
@@ -86,7 +86,7 @@ fitted head k (Left a) t = ltb-true a (leftSlots head) t
 fitted head k (Right a) t = ltb-true a (rightSlots head) t
 fitted head k (Add a b) t = two-below a b k t
 fitted head k (Sub a b) t = two-below a b k t
-fitted head k (Scale a b) t = let s = both (ltb a k) (isConstant (head .prime) b) t in (ltb-true a k (s .0), s .1)
+fitted head k (Scale a c) t = let s = both (ltb a k) (isConstant (head .prime) c) t in (ltb-true a k (s .0), s .1)
 fitted head k (Flip a) t = ltb-true a k t
 fitted head k (Mul a b) t = two-below a b k t
 
@@ -106,7 +106,7 @@ fits-later head k m g l t = one-fits head m g (later g (fitted head k g t))
     later (Right a) h = h
     later (Add a b) h = omega arith
     later (Sub a b) h = omega arith
-    later (Scale a b) h = (omega arith, h .1)
+    later (Scale a c) h = (omega arith, h .1)
     later (Flip a) h = omega arith
     later (Mul a b) h = omega arith
 

@@ -11,6 +11,7 @@ pub mod Later
 pub mod Bytes
 pub mod Bounds
 pub mod Count
+pub mod OldConstants
 pub mod Promises
 pub mod Unaltered
 pub mod Bench

@@ -3,7 +3,7 @@
 -- so a fact about a piece of a circuit needs no word about the gates before or after it.
 -- Assumes nothing.
 use mathlib.Core.Path.{_≡_, refl, sym, ap, ap₂, subst, _∙_}
-use mathlib.Core.List.{List, [], _∷_, _++_}
+use mathlib.Core.List.{List, [], _∷_, _++_, map}
 use Prim.Native.Nat.{ℕ, suc, _+_, _<_}
 use native.Mathlib.Omega.{arith}
 use native.Mathlib.Nat.{zero-add, add-zero, add-suc, suc-add}
@@ -32,6 +32,15 @@ module _ {A : Type 0} (alg : Algebra A) where
   interpret-length earlier [] = omega arith
   interpret-length earlier (g ∷ gs) = omega (arith, interpret-length (next earlier g) gs, next-length earlier g)
 
+  -- others in the place of gates, each of the same meaning
+  pub interpret-map : (f : Gate → Gate) → ((E : ℕ → A) (g : Gate) → meaning alg E (f g) ≡ meaning alg E g)
+      → (earlier : List A) (gs : List Gate) → interpret alg earlier (map f gs) ≡ interpret alg earlier gs
+  unfolding interpret
+  interpret-map f same earlier [] = refl
+  interpret-map f same earlier (g ∷ gs) =
+      ap (λ (x : A). interpret alg (earlier ++ (x ∷ [])) (map f gs)) (same (entryOf alg earlier) g)
+      ∙ interpret-map f same (next earlier g) gs
+
   pub kept : (earlier : List A) (gs : List Gate) (i : ℕ) → i < length earlier
       → entryOf alg (interpret alg earlier gs) i ≡ entryOf alg earlier i
   unfolding interpret
@@ -53,7 +62,7 @@ module _ {A : Type 0} (alg : Algebra A) where
   meaning-same E F k h (Right a) n = refl
   meaning-same E F k h (Add a b) n = ap₂ (alg .add) (h a (n .0)) (h b (n .1))
   meaning-same E F k h (Sub a b) n = ap₂ (alg .sub) (h a (n .0)) (h b (n .1))
-  meaning-same E F k h (Scale a b) n = ap (λ x. alg .scale x b) (h a n)
+  meaning-same E F k h (Scale a c) n = ap (λ x. alg .scale x c) (h a n)
   meaning-same E F k h (Flip a) n = ap (alg .flip) (h a n)
   meaning-same E F k h (Mul a b) n = ap₂ (alg .mul) (h a (n .0)) (h b (n .1))
 

@@ -14,14 +14,17 @@ use lib.Seq.{drop-cons, drop-drop}
 use Rattle.answer.specs.Outcome.{Answer, refused, accepted, onAnswer}
 use Rattle.answer.proofs.Outcome.{passed, answered, accepted-same, Places, numbered-is}
 use Rattle.field.specs.Primes.{listed}
+use Rattle.field.proofs.Primes.{listed-is-odd-prime}
 use Rattle.field.proofs.Tests.{both, neither}
 use Rattle.digits.specs.Number.{wrongCount, allBelow}
 use Rattle.digits.proofs.Number.{below-at, below-drop}
 use Rattle.circuit.specs.Bytes.{Mark, byte, marked, wrongMark, u16At}
+use Rattle.circuit.specs.Constant.{isConstant, sixteenBits}
 use Rattle.circuit.specs.Gate.{Gate, Left, Right, Add, Sub, Scale, Flip, Mul, fields, kinds, gateOf, gateMark, gateBytes}
 use Rattle.circuit.specs.Promises.{TableLength}
 use Rattle.circuit.specs.Reading.{fitting, readFields, readGate, readGates, headOf, countOf, readHead, readTable, reading}
 use Rattle.circuit.specs.Table.{Head, Table, headMark, gatesBytes, tableBytes, wrongWeight, wrongGateCount, fits, allFit}
+use Rattle.circuit.proofs.Constant.{twos-complement}
 use Rattle.circuit.proofs.Fitting.{fit-cons}
 use Rattle.circuit.proofs.WellFormed.{WellFormed}
 
@@ -32,26 +35,29 @@ whole : (x : ℕ) → x % 256 + 256 * (x / 256) ≡ x
 whole x = omega arith
 
 -- the gate of its own fields
-gate-back : (head : Head) (k : ℕ) (g : Gate) → fits head k g ≡ true
+gate-back : (head : Head) (k : ℕ) (g : Gate) → head .prime ≤ 0x10000 → fits head k g ≡ true
     → onAnswer (gateOf (fields g .kind) (fields g .a) (fields g .b)) refused (fitting head k (fields g .b)) ≡ accepted g
-gate-back head k (Left a) t = rw t
-gate-back head k (Right a) t = rw t
-gate-back head k (Add a b) t = rw (t, eq-eqb b b refl)
-gate-back head k (Sub a b) t = rw (t, eq-eqb b b refl)
-gate-back head k (Scale a b) t = rw (t, eq-eqb b b refl)
-gate-back head k (Flip a) t = rw t
-gate-back head k (Mul a b) t = rw (t, eq-eqb b b refl)
+gate-back head k (Left a) small t = rw t
+gate-back head k (Right a) small t = rw t
+gate-back head k (Add a b) small t = rw (t, eq-eqb b b refl)
+gate-back head k (Sub a b) small t = rw (t, eq-eqb b b refl)
+gate-back head k (Scale a c) small t =
+    let back = twos-complement .0 (head .prime) c small (both (ltb a k) (isConstant (head .prime) c) t .1) .1 in
+    rw back (rw (t, eq-eqb (sixteenBits c) (sixteenBits c) refl))
+gate-back head k (Flip a) small t = rw t
+gate-back head k (Mul a b) small t = rw (t, eq-eqb b b refl)
 
-read-gate : (head : Head) (k : ℕ) (g : Gate) (later : List ℕ) → fits head k g ≡ true → readGate head k (gateBytes g ++ later) ≡ accepted g
-read-gate head k g later t = rw (whole (fields g .a), whole (fields g .b)) (gate-back head k g t)
+read-gate : (head : Head) (k : ℕ) (g : Gate) (later : List ℕ) → head .prime ≤ 0x10000 → fits head k g ≡ true
+    → readGate head k (gateBytes g ++ later) ≡ accepted g
+read-gate head k g later small t = rw (whole (fields g .a), whole (fields g .b)) (gate-back head k g small t)
 
-read-gates : (head : Head) (k : ℕ) (gs : List Gate) (later : List ℕ) → allFit head k gs ≡ true
+read-gates : (head : Head) (k : ℕ) (gs : List Gate) (later : List ℕ) → head .prime ≤ 0x10000 → allFit head k gs ≡ true
     → readGates head k (length gs) (gatesBytes gs ++ later) ≡ accepted gs
 unfolding readGates gatesBytes
-read-gates head k [] later t = refl
-read-gates head k (g ∷ gs) later t =
+read-gates head k [] later small t = refl
+read-gates head k (g ∷ gs) later small t =
     let s = fit-cons head k g gs t in
-    rw (read-gate head k g (gatesBytes gs ++ later) (s .0), read-gates head (suc k) gs later (s .1))
+    rw (read-gate head k g (gatesBytes gs ++ later) small (s .0), read-gates head (suc k) gs later small (s .1))
 
 pub length-gates : (gs : List Gate) → length (gatesBytes gs) ≡ 8 * length gs
 unfolding gatesBytes
@@ -68,7 +74,8 @@ read-table table later w =
     = length-append (tableBytes table) later ∙ ap (λ (n : ℕ). n + length later) (table-length table) in
     let least = le-ltb (length (tableBytes table ++ later)) 8 (omega arith) in
     let room = le-ltb (length (tableBytes table ++ later)) (8 * (count + 1)) (omega arith) in
-    let gates = read-gates (table .head) 0 (table .gates) later (w .fitted) in
+    let prime = listed-is-odd-prime (table .head .prime) .0 (w .prime) .high in
+    let gates = read-gates (table .head) 0 (table .gates) later (omega arith) (w .fitted) in
     rw (least, w .prime, w .weight, w .slots, whole count, w .count, room) (rw (whole count, gates))
 
 -- ---- from bytes to gates

@@ -3,6 +3,7 @@
 use mathlib.Core.Path.{refl}
 use Rattle.field.specs.Primes.{member, primes, listed}
 use Rattle.digits.specs.Number.{allBelow}
+use Rattle.circuit.specs.Constant.{signed}
 use Rattle.circuit.specs.Reading.{readGates}
 use Rattle.circuit.specs.RefusalOrder.{CheckOrder, RunOrder}
 use Rattle.circuit.specs.Table.{gatesBytes}
@@ -12,5 +13,5 @@ unfolding listed member primes readGates
 check-order = refl
 
 pub run-order : RunOrder
-unfolding listed member primes allBelow gatesBytes readGates
+unfolding listed member primes allBelow signed gatesBytes readGates
 run-order = (refl, refl)

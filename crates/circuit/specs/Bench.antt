@@ -4,17 +4,18 @@ use mathlib.Core.List.{List, [], _∷_, _++_, map}
 use Prim.Native.Nat.{ℕ}
 use Rattle.answer.specs.Outcome.{accepted}
 use Rattle.answer.specs.Report.{Report}
+use Rattle.circuit.specs.Constant.{plus, minus}
 use Rattle.circuit.specs.Gate.{Left, Right, Add, Sub, Scale, Flip, Mul}
 use Rattle.circuit.specs.Meaning.{output}
 use Rattle.circuit.specs.Outcomes.{checking, running}
 use Rattle.circuit.specs.Table.{Table, tableBytes}
 use Rattle.circuit.specs.Value.{values}
 
--- the listing of the first bench card: p=3, s=75, "<" of 1
+-- the listing of the first bench card: p=3, s=75, "<" of 1. "In document 01's whole listing line 5 becomes `5 SCALE 3 -1`." (document 02, E3)
 abbrev pub lessTable : Table
 lessTable = record {
   head = record { prime = 3; weight = 75; slots = 1 };
-  gates = Left 0 ∷ Right 0 ∷ Sub 0 1 ∷ Mul 2 2 ∷ Scale 2 1 ∷ Scale 3 2 ∷ Add 4 5 ∷ [];
+  gates = Left 0 ∷ Right 0 ∷ Sub 0 1 ∷ Mul 2 2 ∷ Scale 2 (plus 1) ∷ Scale 3 (minus 1) ∷ Add 4 5 ∷ [];
 }
 
 -- "p=7, s=50, one "=" of 1": z^2, z^4, then z^6 as their product, and its FLIP

@@ -11,7 +11,7 @@ depths = record {
   right = λ a. 0;
   add = max;
   sub = max;
-  scale = λ a b. a;
+  scale = λ a c. a;
   flip = λ a. a;
   mul = λ a b. suc (max a b);
 }

@@ -1,4 +1,4 @@
--- To be believed by a reader of the promises: gates and their bytes, a record's word, what gates mean, what Check, Trim and Run answer, product trees and sums.
+-- To be believed by a reader of the promises: gates and their bytes, the constants of SCALEs, a record's word, what gates mean, what Check, Trim and Run answer, product trees and sums.
 pub mod Bytes
 pub mod Constant
 pub mod Gate
@@ -8,6 +8,8 @@ pub mod Value
 pub mod Depth
 pub mod Count
 pub mod Report
+pub mod ConstantPromises
+pub mod OldConstants
 pub mod Reading
 pub mod Word
 pub mod Outcomes

@@ -4,6 +4,7 @@ use mathlib.Core.Path.{_≡_}
 use Prim.Native.Nat.{ℕ, suc, _-_}
 use mathlib.Core.List.{List, [], _∷_, _++_}
 use lib.ListN.{length, getD}
+use Rattle.circuit.specs.Constant.{Constant}
 use Rattle.circuit.specs.Gate.{Gate, Left, Right, Add, Sub, Scale, Flip, Mul}
 
 -- what each kind does
@@ -14,7 +15,7 @@ pub record Algebra (A : Type 0) : Type 0 where
   pub right : ℕ → A
   pub add : A → A → A
   pub sub : A → A → A
-  pub scale : A → ℕ → A
+  pub scale : A → Constant → A
   pub flip : A → A
   pub mul : A → A → A
 
@@ -25,7 +26,7 @@ module _ {A : Type 0} (alg : Algebra A) where
   meaning entry (Right a) = alg .right a
   meaning entry (Add a b) = alg .add (entry a) (entry b)
   meaning entry (Sub a b) = alg .sub (entry a) (entry b)
-  meaning entry (Scale a b) = alg .scale (entry a) b
+  meaning entry (Scale a c) = alg .scale (entry a) c
   meaning entry (Flip a) = alg .flip (entry a)
   meaning entry (Mul a b) = alg .mul (entry a) (entry b)
 

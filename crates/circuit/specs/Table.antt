@@ -59,13 +59,13 @@ mostGates = 8191
 abbrev pub wrongGateCount : ℕ → Bool
 wrongGateCount count = ltb count 1 || ltb mostGates count
 
--- the operands of gate number k: "Gates count from 0 and name only gates with lower numbers; slots are below N"; "constant b<p"
+-- the operands of gate number k: "Gates count from 0 and name only gates with lower numbers; slots are below N"; "Refusal 17 now reads this range." (document 02, E3)
 abbrev pub fits : Head → ℕ → Gate → Bool
 fits head k (Left a) = ltb a (leftSlots head)
 fits head k (Right a) = ltb a (rightSlots head)
 fits head k (Add a b) = ltb a k && ltb b k
 fits head k (Sub a b) = ltb a k && ltb b k
-fits head k (Scale a b) = ltb a k && isConstant (head .prime) b
+fits head k (Scale a c) = ltb a k && isConstant (head .prime) c
 fits head k (Flip a) = ltb a k
 fits head k (Mul a b) = ltb a k && ltb b k
 

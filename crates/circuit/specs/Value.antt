@@ -18,8 +18,8 @@ values p left right = record {
   add = addMod p;
   -- "4 SUB a-b"
   sub = subMod p;
-  -- "5 SCALE gate a times constant b"
-  scale = λ a b. mulMod p a (constant p b);
+  -- "5 SCALE gate a times constant", by what the constant is modulo p
+  scale = λ a c. mulMod p a (constant p c);
   -- "6 FLIP 1-a"
   flip = subMod p 1;
   -- "7 MUL a times b"

@@ -10,6 +10,7 @@ use native.Mathlib.Omega.{arith}
 use native.Mathlib.Decide.{decLe}
 use native.Mathlib.Nat.{lt-of-not-le, le-antisymm, mod-eq-of-lt}
 use lib.ListN.{length, length-append}
+use Rattle.field.specs.Half.{half}
 use Rattle.field.specs.Logarithm.{clog}
 use Rattle.field.specs.Polynomials.{everySecond, orderExponents, orderPolynomial, zeroTest}
 use Rattle.field.proofs.Logarithm.{clog-mono}
@@ -28,7 +29,7 @@ use Rattle.circuit.proofs.Fitting.{all-fit, fit-append}
 use Rattle.circuit.proofs.Meaning.{solves-append}
 use Rattle.circuit.proofs.Sums.{largest-covers, largest-within}
 use Rattle.comparison.specs.Difference.{zGate}
-use Rattle.comparison.specs.OrderDigit.{half, powers, powerCount, powerGate, terms, termStart, lessCount, lessGates, equalGates}
+use Rattle.comparison.specs.OrderDigit.{powers, powerCount, powerGate, terms, termStart, lessCount, lessGates, equalGates}
 use Rattle.comparison.proofs.Mapped.{every-second}
 use Rattle.comparison.proofs.Powers.{Asked, gate-low, gate-high, asked-top, powers-length, power-value, power-depth}
 use Rattle.comparison.proofs.PowersCount.{powers-fit, powers-count}
@@ -104,7 +105,7 @@ module _ (p : ℕ) (three : 3 ≤ p) (odd : p % 2 ≡ 1) where
       let z = zGate k in
       let after : suc z + length (powers p z) ≡ termStart p k = omega (arith, powers-length p z three odd) in
       fit-append head (suc z) (powers p z) _ (powers-fit head p z three odd)
-      (rw after (terms-fit head p z (omega arith) prime (termStart p k) (orderExponents p)
+      (rw after (terms-fit head p z (omega arith) odd prime (termStart p k) (orderExponents p)
       (every-exponent _ p three odd (λ i one asked. power-before p z i odd three one asked))))
 
   pub equal-fits : (head : Head) (k : ℕ) → allFit head (equalGate p k) (equalGates p k) ≡ true

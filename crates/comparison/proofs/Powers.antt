@@ -13,6 +13,7 @@ use native.Mathlib.Nat.{lt-of-not-le, mod-mod, pow-suc, pow-zero, one-mul}
 use borrow.Author.Tests.{le-leb, lt-leb}
 use lib.ListN.{length, length-map, length-append, getD}
 use lib.Pow.{pow-add}
+use Rattle.field.specs.Half.{half}
 use Rattle.field.specs.Logarithm.{clog}
 use Rattle.field.proofs.Logarithm.{clog-half, clog-small, clog-mono}
 use Rattle.field.proofs.Modular.{mod-same, mul-cong, mulMod-is}
@@ -21,7 +22,7 @@ use Rattle.circuit.specs.Depth.{depths}
 use Rattle.circuit.specs.Meaning.{Algebra, meaning, Solves}
 use Rattle.circuit.specs.Value.{values}
 use Rattle.circuit.proofs.Meaning.{solves-append}
-use Rattle.comparison.specs.OrderDigit.{half, lowExponents, nextOdd, oddExponents, lowPower, powerOf, powers, powerCount, powerGate}
+use Rattle.comparison.specs.OrderDigit.{lowExponents, nextOdd, oddExponents, lowPower, powerOf, powers, powerCount, powerGate}
 use Rattle.comparison.proofs.Mapped.{solves-map, length-ascending, ascending-at}
 
 -- the exponents that the terms ask for: odd ones up to p - 2, and p - 1

@@ -9,13 +9,14 @@ use native.Mathlib.Decide.{ℕ-discrete}
 use borrow.Author.Tests.{eq-eqb, ne-eqb}
 use lib.ListN.{length}
 use Rattle.field.specs.Bit.{bit}
+use Rattle.field.specs.Half.{half}
 use Rattle.field.specs.Polynomials.{everySecond}
 use Rattle.field.proofs.OrderConstants.{second-at}
 use Rattle.circuit.specs.Count.{count, isProduct, isSquare}
 use Rattle.circuit.specs.Table.{Head, allFit}
 use Rattle.circuit.proofs.Count.{count-append}
 use Rattle.circuit.proofs.Fitting.{all-fit, fit-append}
-use Rattle.comparison.specs.OrderDigit.{half, ascending, lowExponents, nextOdd, oddExponents, lowPower, powerOf, powers}
+use Rattle.comparison.specs.OrderDigit.{ascending, lowExponents, nextOdd, oddExponents, lowPower, powerOf, powers}
 use Rattle.comparison.proofs.Mapped.{fit-map, length-ascending, ascending-at}
 use Rattle.comparison.proofs.Powers.{low-length, odd-count}
 

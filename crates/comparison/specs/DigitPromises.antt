@@ -1,20 +1,23 @@
 -- What is proved of the digits of a condition and of one digit's tests, written after any gates; where truth is claimed, for every odd prime p.
--- Proved in `proofs/DigitPromises.antt` and `proofs/EqualityDigit.antt`.
+-- Proved in `proofs/DigitPromises.antt`, `proofs/Terms.antt` and `proofs/EqualityDigit.antt`.
 use mathlib.Core.Path.{_≡_}
-use mathlib.Core.List.{List, _++_}
+use mathlib.Core.List.{List, [], _∷_, _++_, map}
 use Prim.Native.Nat.{ℕ, suc, _+_, _-_, _%_, _^_, _≤_, _<_}
 use lib.Dec.{ltb, eqb}
 use lib.ListN.{length, getD}
 use Rattle.field.specs.Bit.{bit}
 use Rattle.field.specs.Logarithm.{flog}
-use Rattle.field.specs.Polynomials.{orderExponents}
+use Rattle.field.specs.Polynomials.{orderExponents, orderConstant, orderConstants}
 use Rattle.field.specs.Primes.{Prime}
 use Rattle.digits.specs.Number.{base}
+use Rattle.circuit.specs.Constant.{plus, minus, code}
 use Rattle.circuit.specs.Count.{isSquare, isProduct, count}
 use Rattle.circuit.specs.Depth.{depths}
 use Rattle.circuit.specs.Every.{Every}
-use Rattle.circuit.specs.Gate.{Gate}
+use Rattle.circuit.specs.Gate.{Gate, Scale}
 use Rattle.circuit.specs.Meaning.{entryAt, output}
+use Rattle.circuit.specs.OldConstants.{oldGate}
+use Rattle.circuit.specs.Sums.{sumFrom}
 use Rattle.circuit.specs.Value.{values}
 use Rattle.comparison.specs.Bits.{ones}
 use Rattle.comparison.specs.Condition.{Condition}
@@ -22,7 +25,7 @@ use Rattle.comparison.specs.Difference.{zGate}
 use Rattle.comparison.specs.Digits.{orderDigit, orderStart, equalityDigit, equalityStart}
 use Rattle.comparison.specs.EqualityDigit.{zeroGates}
 use Rattle.comparison.specs.Lawful.{Lawful}
-use Rattle.comparison.specs.OrderDigit.{powerGate}
+use Rattle.comparison.specs.OrderDigit.{powerGate, terms}
 use Rattle.comparison.specs.Relation.{isBackward, minuend, subtrahend}
 use Rattle.comparison.specs.Tests.{Tests, lessNode, equalNode, digitDepth, baseTests}
 
@@ -56,6 +59,21 @@ TermPowers =
     → let k = length gates in
     let value = entryAt (values p left right) (gates ++ orderDigit (baseTests p) c j k) in
     Every (λ i. value (powerGate p (zGate k) i) % p ≡ (value (zGate k) ^ i) % p) (orderExponents p)
+
+-- a term with the constant that it had: "a SCALE of z^i by c_i" (document 01)
+abbrev pub oldTerm : ℕ → ℕ → ℕ → Gate
+oldTerm p z i = Scale (powerGate p z i) (plus (orderConstant p i))
+
+-- a SCALE's b is "equal to the old constant modulo p" (document 02, E3): with the constants that they had, the terms over z from gate number k on
+-- are document 01's
+abbrev pub OldTerms : Type 0
+OldTerms = (p z k : ℕ) (is : List ℕ) → 2 ≤ p → map (oldGate p) (terms p z k is) ≡ sumFrom k (map (oldTerm p z) is)
+
+-- "p=5 order constants 4, 3, 3; p=7: 3, 1, 6, 4." (document 01), as they are written
+abbrev pub WrittenConstants : Type 0
+WrittenConstants =
+    (map (code 5) (orderConstants 5) ≡ minus 1 ∷ minus 2 ∷ minus 2 ∷ [])
+    × (map (code 7) (orderConstants 7) ≡ plus 3 ∷ plus 1 ∷ minus 1 ∷ minus 3 ∷ [])
 
 -- by any lawful tests: L is 1 where the first digit is smaller, and 0 otherwise;
 -- E, of every digit but the lowest, is 1 where they are equal, and 0 otherwise

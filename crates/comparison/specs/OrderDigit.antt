@@ -3,15 +3,12 @@ use Prim.Native.Nat.{ℕ, zero, suc, _+_, _-_, _/_, _%_}
 use mathlib.Core.Bool.{true, false}
 use mathlib.Core.List.{List, [], _∷_, _++_, map}
 use lib.Dec.{leb}
+use Rattle.field.specs.Half.{half}
 use Rattle.field.specs.Polynomials.{everySecond, orderExponents, orderConstant}
 use Rattle.circuit.specs.Constant.{code}
 use Rattle.circuit.specs.Gate.{Gate, Scale, Flip, Mul}
 use Rattle.circuit.specs.Sums.{sumFrom}
 use Rattle.comparison.specs.Difference.{zGate}
-
--- (p-1)/2
-abbrev pub half : ℕ → ℕ
-half p = (p - 1) / 2
 
 -- i, i + 1, ..: n numbers
 unfoldable pub ascending : ℕ → ℕ → List ℕ

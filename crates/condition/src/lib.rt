@@ -45,7 +45,7 @@ pub fn put_condition(
     p: u16,
     relation: Relation,
     slots: Slots,
-    constants: &[u8],
+    constants: &[u16],
     powers: &[u16],
 ) -> Written
     requires { ⌜ Room (now table) pen (length (conditionSegment p (conditionIs relation slots) (pen .next) .gates)) ⌝ }

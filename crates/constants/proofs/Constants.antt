@@ -3,7 +3,7 @@
 -- are b^(p-2m), and each turn writes one and raises the powers by b^2.
 -- Assumes nothing.
 use mathlib.Core.Path.{_≡_, refl, sym, ap, ap₂, _∙_}
-use mathlib.Core.List.{List, [], _∷_, _++_, map-append, append-assoc, append-nil}
+use mathlib.Core.List.{List, [], _∷_, _++_, map, map-append, append-assoc, append-nil}
 use Prim.Native.Nat.{ℕ, zero, suc, _+_, _-_, _*_, _/_, _%_, _^_, _≤_, _<_}
 use native.Mathlib.Omega.{arith}
 use native.Mathlib.Numerals.{add-one, sub-one}
@@ -15,7 +15,8 @@ use lib.Seq.{length-take-le, take-at, drop-cons, drop-set-lt, set-at, getD-at, g
 use Rattle.field.specs.Sum.{sum, total}
 use Rattle.field.specs.Modular.{residue, mulMod}
 use Rattle.field.specs.Polynomials.{everySecond, orderExponents, orderConstant, orderConstants}
-use Rattle.constants.specs.Constants.{firstValues, oneTo, productsMod, powersMod, oddConstants}
+use Rattle.circuit.specs.Constant.{bitsOf}
+use Rattle.constants.specs.Constants.{firstValues, oneTo, productsMod, powersMod, oddConstants, oddBits}
 use Rattle.field.proofs.Modular.{mod-same, strip, residue-is, residue-small}
 use Rattle.field.proofs.OrderConstants.{length-second, second-at, constant-odd, constant-last}
 use Rattle.field.proofs.Sum.{sum-cong, total-append}
@@ -149,16 +150,19 @@ powers-sum p e n some =
 
 -- ---- the constants
 
-length-odd : (p : ℕ) → length (oddConstants p) ≡ p / 2
+length-odd : (p : ℕ) → length (oddBits p) ≡ p / 2
 unfolding oddConstants
-length-odd p = length-map (everySecond (p / 2) 1) (orderConstant p) ∙ length-second (p / 2) 1
+length-odd p =
+    length-map (oddConstants p) (bitsOf p) ∙ length-map (everySecond (p / 2) 1) (orderConstant p) ∙ length-second (p / 2) 1
 
-odd-from : (p k : ℕ) → k < p / 2 → drop k (oddConstants p) ≡ orderConstant p (1 + 2 * k) ∷ drop (suc k) (oddConstants p)
+odd-from : (p k : ℕ) → k < p / 2 → drop k (oddBits p) ≡ bitsOf p (orderConstant p (1 + 2 * k)) ∷ drop (suc k) (oddBits p)
 unfolding oddConstants
 odd-from p k l =
     let c = orderConstant p in
-    drop-cons (oddConstants p) k (c 0) (omega (arith, length-odd p))
-    ∙ ap (λ (x : ℕ). x ∷ drop (suc k) (oddConstants p)) (List·getD-map c (everySecond (p / 2) 1) k 0 ∙ ap c (second-at (p / 2) 1 k l))
+    let is = everySecond (p / 2) 1 in
+    drop-cons (oddBits p) k (bitsOf p (c 0)) (omega (arith, length-odd p))
+    ∙ ap (λ (x : ℕ). x ∷ drop (suc k) (oddBits p))
+    (List·getD-map (bitsOf p) (oddConstants p) k (c 0) ∙ ap (bitsOf p) (List·getD-map c is k 0 ∙ ap c (second-at (p / 2) 1 k l)))
 
 module _ (p : ℕ) (odd : p % 2 ≡ 1) where
   -- the sum of the powers that stand there where k constants are left after this one
@@ -174,17 +178,21 @@ module _ (p : ℕ) (odd : p % 2 ≡ 1) where
       map-append (orderConstant p) (everySecond ((p - 1) / 2) 1) ((p - 1) ∷ [])
       ∙ rw (half, constant-last p (p / 2) (omega arith))
 
+  -- as SCALEs have them
+  bits-are : map (bitsOf p) (orderConstants p) ≡ oddBits p ++ (bitsOf p (suc (p / 2)) ∷ [])
+  bits-are = ap (map (bitsOf p)) constants-are ∙ map-append (bitsOf p) (oddConstants p) (suc (p / 2) ∷ [])
+
   -- the last constant, and those before it
-  pub constants-with-last : (half : ℕ) (entry exit : List ℕ) → half ≡ p / 2 → p / 2 + 1 ≤ length entry
-      → exit ≡ oddConstants p ++ drop (p / 2) (set entry half (p / 2 + 1)) → exit ≡ orderConstants p ++ drop (p / 2 + 1) entry
-  constants-with-last half entry exit is l e =
+  pub constants-with-last : (half last : ℕ) (entry exit : List ℕ) → half ≡ p / 2 → last ≡ bitsOf p (p / 2 + 1) → p / 2 + 1 ≤ length entry
+      → exit ≡ oddBits p ++ drop (p / 2) (set entry half last) → exit ≡ map (bitsOf p) (orderConstants p) ++ drop (p / 2 + 1) entry
+  constants-with-last half last entry exit is told l e =
       e
-      ∙ ap (λ (k : ℕ). oddConstants p ++ drop h (set entry k (h + 1))) is
-      ∙ ap (λ (t : List ℕ). oddConstants p ++ t)
-      (drop-cons (set entry h (h + 1)) h 0 (rw length-set (omega arith))
-      ∙ ap₂ (λ (x : ℕ) (t : List ℕ). x ∷ t) (getD-set-same entry h (h + 1) 0 (omega arith) ∙ add-one h) (drop-set-lt (suc h) entry h (h + 1) (omega arith)))
-      ∙ sym (append-assoc (oddConstants p) (suc h ∷ []) (drop (suc h) entry))
-      ∙ rw (← constants-are, add-one)
+      ∙ ap (λ (k : ℕ). oddBits p ++ drop h (set entry k last)) is
+      ∙ ap (λ (t : List ℕ). oddBits p ++ t)
+      (drop-cons (set entry h last) h 0 (rw length-set (omega arith))
+      ∙ ap₂ (λ (x : ℕ) (t : List ℕ). x ∷ t) (getD-set-same entry h last 0 (omega arith) ∙ told ∙ ap (bitsOf p) (add-one h)) (drop-set-lt (suc h) entry h last (omega arith)))
+      ∙ sym (append-assoc (oddBits p) (bitsOf p (suc h) ∷ []) (drop (suc h) entry))
+      ∙ rw (← bits-are, add-one)
     where
       h : ℕ
       h = p / 2
@@ -196,7 +204,7 @@ pub record Descending (p : ℕ) (before constants powers : List ℕ) (m : ℕ) :
   pub within : m ≤ p / 2
   pub long : length constants ≡ length before
   pub raised : powers ≡ powersMod p (1 + 2 * (p / 2 - m)) (p / 2)
-  pub written : drop m constants ≡ drop m (oddConstants p) ++ drop (p / 2) before
+  pub written : drop m constants ≡ drop m (oddBits p) ++ drop (p / 2) before
 
 pub descend-begin : (p : ℕ) (before powers : List ℕ) → powers ≡ powersMod p 1 (p / 2) → Descending p before before powers (length powers)
 descend-begin p before powers e =
@@ -206,7 +214,7 @@ descend-begin p before powers e =
       within = omega arith;
       long = refl;
       raised = rw none e;
-      written = rw (drop-of-length-le (oddConstants p) {i = p / 2} (omega (arith, length-odd p)));
+      written = rw (drop-of-length-le (oddBits p) {i = p / 2} (omega (arith, length-odd p)));
     }
 
 module _ (p : ℕ) (before constants powers : List ℕ) where
@@ -215,7 +223,7 @@ module _ (p : ℕ) (before constants powers : List ℕ) where
 
   -- one constant down
   down : (k x : ℕ) (squares next : List ℕ) → p % 2 ≡ 1 → p / 2 ≤ length before → squares ≡ powersMod p 2 (p / 2) → Descending p before constants powers (suc k)
-      → x ≡ residue p (total powers) → next ≡ productsMod p powers squares → Descending p before (set constants k x) next k
+      → x ≡ bitsOf p (residue p (total powers)) → next ≡ productsMod p powers squares → Descending p before (set constants k x) next k
   down k x squares next odd room e u sum product = record {
     within = omega (arith, u .within);
     long = length-set constants k x ∙ u .long;
@@ -227,7 +235,8 @@ module _ (p : ℕ) (before constants powers : List ℕ) where
     written =
         drop-cons (set constants k x) k 0 inside
         ∙ ap₂ (λ (y : ℕ) (t : List ℕ). y ∷ t)
-        (getD-set-same constants k x 0 (omega (arith, u .within, u .long)) ∙ sum ∙ ap (λ (t : List ℕ). residue p (total t)) (u .raised) ∙ constant-sum p odd k (omega (arith, u .within)))
+        (getD-set-same constants k x 0 (omega (arith, u .within, u .long)) ∙ sum
+        ∙ ap (bitsOf p) (ap (λ (t : List ℕ). residue p (total t)) (u .raised) ∙ constant-sum p odd k (omega (arith, u .within))))
         (drop-set-lt (suc k) constants k x (omega arith) ∙ u .written)
         ∙ sym (ap (λ (t : List ℕ). t ++ drop (p / 2) before) (odd-from p k (omega (arith, u .within))));
   }
@@ -236,10 +245,10 @@ module _ (p : ℕ) (before constants powers : List ℕ) where
       inside = rw length-set (omega (arith, u .within, u .long))
 
   pub descend-one : (m x : ℕ) (squares next : List ℕ) → p % 2 ≡ 1 → p / 2 ≤ length before → squares ≡ powersMod p 2 (p / 2) → 0 < m → Descending p before constants powers m
-      → x ≡ residue p (total powers) → next ≡ productsMod p powers squares → Descending p before (set constants (m - 1) x) next (m - 1)
+      → x ≡ bitsOf p (residue p (total powers)) → next ≡ productsMod p powers squares → Descending p before (set constants (m - 1) x) next (m - 1)
   descend-one zero x squares next odd room e l u sum product = absurd (omega arith)
   descend-one (suc k) x squares next odd room e l u sum product = simp sub-one (down k x squares next odd room e u sum product)
 
-  pub descended : (m : ℕ) → m ≤ 0 → Descending p before constants powers m → constants ≡ oddConstants p ++ drop (p / 2) before
+  pub descended : (m : ℕ) → m ≤ 0 → Descending p before constants powers m → constants ≡ oddBits p ++ drop (p / 2) before
   descended zero l u = u .written
   descended (suc m) l u = absurd (omega arith)

@@ -4,6 +4,7 @@ use mathlib.Core.List.{List, [], _∷_, _++_, map}
 use lib.ListN.{length, getD}
 use Rattle.field.specs.Modular.{residue, mulMod}
 use Rattle.field.specs.Polynomials.{everySecond, orderConstant}
+use Rattle.circuit.specs.Constant.{bitsOf}
 
 -- room for the order constants of any odd p that is a byte: one for each odd exponent below p, and one for p - 1
 abbrev pub mostConstants : ℕ
@@ -29,3 +30,7 @@ powersMod p e n = firstValues n (λ b. residue p (suc b ^ e))
 -- the constants but for the last one, of an odd p
 unfoldable pub oddConstants : ℕ → List ℕ
 oddConstants p = map (orderConstant p) (everySecond (p / 2) 1)
+
+-- the same as SCALEs have them
+abbrev pub oddBits : ℕ → List ℕ
+oddBits p = map (bitsOf p) (oddConstants p)

@@ -2,10 +2,11 @@
 use mathlib.Core.Path.{_≡_}
 use mathlib.Core.Bool.{true, _&&_, _||_}
 use mathlib.Core.List.{List, _++_}
-use Prim.Native.Nat.{ℕ, _-_, _/_, _%_, _<_}
+use Prim.Native.Nat.{ℕ, _%_, _<_}
 use lib.Dec.{ltb, eqb}
 use lib.ListN.{length}
 use Rattle.field.specs.Bit.{bit}
+use Rattle.field.specs.Half.{half}
 use Rattle.field.specs.Primes.{Prime}
 use Rattle.field.specs.Modular.{subMod}
 use Rattle.field.specs.Polynomials.{zeroTest, orderPolynomial}
@@ -15,7 +16,7 @@ use Rattle.digits.specs.Number.{base, number, allBelow}
 
 -- x < y exactly where (x - y) mod p is above (p-1)/2
 abbrev pub DigitLess : Type 0
-DigitLess = (p x y : ℕ) → x < base p → y < base p → ltb ((p - 1) / 2) (subMod p x y) ≡ ltb x y
+DigitLess = (p x y : ℕ) → x < base p → y < base p → ltb (half p) (subMod p x y) ≡ ltb x y
 
 -- x = y exactly where (x - y) mod p is 0; here any x and y below p will do
 abbrev pub DigitEqual : Type 0

@@ -1,6 +1,7 @@
--- To be believed by a reader of the promises: primes, how many values a byte has, arithmetic modulo p, logarithms and sums, and the two polynomials that test a digit.
+-- To be believed by a reader of the promises: primes, (p-1)/2, how many values a byte has, arithmetic modulo p, logarithms and sums, and the two polynomials that test a digit.
 -- `PowerSum` stands apart: no promise rests on it.
 pub mod Primes
+pub mod Half
 pub mod Byte
 pub mod Modular
 pub mod Logarithm

@@ -2,9 +2,10 @@
 -- Congruence is equality of remainders. Proved in `proofs/Euclid.antt`, `proofs/Fermat.antt` and `proofs/Polynomials.antt`.
 use mathlib.Core.Path.{_≡_}
 use mathlib.Core.Logic.{_≢_, _⊎_}
-use Prim.Native.Nat.{ℕ, _-_, _*_, _/_, _%_, _^_, _<_}
+use Prim.Native.Nat.{ℕ, _-_, _*_, _%_, _^_, _<_}
 use lib.Dec.{ltb, eqb}
 use Rattle.field.specs.Bit.{bit}
+use Rattle.field.specs.Half.{half}
 use Rattle.field.specs.Primes.{Prime}
 use Rattle.field.specs.Polynomials.{zeroTest, orderPolynomial}
 
@@ -34,4 +35,4 @@ ZeroTest = (p z : ℕ) → Prime p → z < p → zeroTest p z ≡ bit (eqb z 0)
 
 -- the order polynomial is 1 above (p-1)/2, and 0 up to it
 abbrev pub OrderTest : Type 0
-OrderTest = (p z : ℕ) → Prime p → p % 2 ≡ 1 → z < p → orderPolynomial p z % p ≡ bit (ltb ((p - 1) / 2) z)
+OrderTest = (p z : ℕ) → Prime p → p % 2 ≡ 1 → z < p → orderPolynomial p z % p ≡ bit (ltb (half p) z)

@@ -3,16 +3,17 @@
 use mathlib.Core.Path.{_≡_, refl, sym}
 use mathlib.Core.Bool.{Bool, true, false, not, _&&_, and-true}
 use mathlib.Core.List.{List}
-use Prim.Native.Nat.{ℕ, suc}
+use Prim.Native.Nat.{ℕ, suc, _<_}
 use borrow.Author.Tests.{eq-eqb}
 use lib.Dec.{ltb, eqb}
 use lib.ListN.{length, getD}
 use Rattle.answer.specs.Outcome.{Answer, refused, accepted, refuse}
 use Rattle.answer.proofs.Outcome.{refused≢accepted, onAnswer-rule, accepted-same}
-use Rattle.circuit.specs.Constant.{isConstant}
+use Rattle.circuit.specs.Constant.{isConstant, signed}
 use Rattle.circuit.specs.Gate.{Gate, Left, Right, Add, Sub, Scale, Flip, Mul}
 use Rattle.circuit.specs.Reading.{readFields}
 use Rattle.circuit.specs.Table.{Head, leftSlots, rightSlots}
+use Rattle.circuit.proofs.Constant.{twos-complement}
 use Rattle.gates.specs.Adding.{Addition, addition, linear, isEarlier, deeperOf, multiplied, operands, adding}
 use Rattle.records.proofs.NoKind.{NoKind, no-kind}
 
@@ -51,8 +52,9 @@ module _ (head : Head) (earlier : List ℕ) (a b : ℕ) where
   pub sub-adds : operands (isEarlier earlier a && isEarlier earlier b) (linear (deeperOf earlier a b)) ≡ ofKind 4
   sub-adds = tested-both (isEarlier earlier a && isEarlier earlier b) b earlier (Sub a b)
 
-  pub scale-adds : operands (isEarlier earlier a && isConstant (head .prime) b) (linear (getD earlier a 0)) ≡ ofKind 5
-  scale-adds = tested-both (isEarlier earlier a && isConstant (head .prime) b) b earlier (Scale a b)
+  pub scale-adds : b < 0x10000 → operands (isEarlier earlier a && isConstant (head .prime) (signed b)) (linear (getD earlier a 0)) ≡ ofKind 5
+  scale-adds small =
+      rw (twos-complement .1 b small) (tested-both (isEarlier earlier a && isConstant (head .prime) (signed b)) b earlier (Scale a (signed b)))
 
   pub flip-adds : operands (isEarlier earlier a && eqb b 0) (linear (getD earlier a 0)) ≡ ofKind 6
   flip-adds = tested (isEarlier earlier a && eqb b 0) earlier (Flip a)

@@ -1,2 +1,3 @@
 -- Laws of one gate.
 pub mod Adding
+pub mod Constant

@@ -4,11 +4,11 @@ use records::GATE_MARK;
 use records::TableHead;
 ghost use mathlib.Core.Path.{_≡_};
 ghost use mathlib.Core.Bool.{_&&_};
-ghost use Prim.Native.Nat.{suc, _≤_};
+ghost use Prim.Native.Nat.{suc, _%_, _≤_, _<_};
 ghost use lib.Dec.{ltb, eqb};
 ghost use lib.ListN.{length, getD};
 ghost use Rattle.answer.specs.Outcome.{accepted};
-ghost use Rattle.circuit.specs.Constant.{isConstant};
+ghost use Rattle.circuit.specs.Constant.{isConstant, signed};
 ghost use Rattle.circuit.specs.Reading.{readFields, readGate};
 ghost use Rattle.circuit.specs.Word.{wordAt, OpensWithBytes, wordVerdict};
 ghost use Rattle.records.specs.Head.{headIs};
@@ -71,14 +71,24 @@ fn sum_gate(a: usize, b: usize, earlier: &[u16]) -> Added
     linear_at(answer::deeper(earlier[a], earlier[b]))
 }
 
+// Whether sixteen bits are a constant. Moved up by (p-1)/2, which is p / 2 as p is odd, the constants of both signs are the numbers
+// below p, so that one comparison tells them, without a branch on the sign.
+fn is_constant(b: usize, prime: u8) -> bool
+    requires { ⌜ (b < 0x10000) × (prime % 2 ≡ 1) ⌝ }
+    ensures { λ r. ⌜ r ≡ isConstant prime (signed b) ⌝ }
+{
+    (b + arithmetic::wide(prime / 2)) % 0x10000 < arithmetic::wide(prime)
+}
+
 // SCALE.
-fn scale_gate(a: usize, b: usize, prime: usize, earlier: &[u16]) -> Added
-    ensures { λ r. ⌜ addedAnswer r ≡ operands (isEarlier (now (earlier .entry)) a && isConstant prime b) (linear (getD (now (earlier .entry)) a 0)) ⌝ }
+fn scale_gate(a: usize, b: usize, prime: u8, earlier: &[u16]) -> Added
+    requires { ⌜ (b < 0x10000) × (prime % 2 ≡ 1) ⌝ }
+    ensures { λ r. ⌜ addedAnswer r ≡ operands (isEarlier (now (earlier .entry)) a && isConstant prime (signed b)) (linear (getD (now (earlier .entry)) a 0)) ⌝ }
 {
     if earlier.len() <= a {
         return Added::Refused(Refusal::WrongOperand);
     }
-    if prime <= b {
+    if !is_constant(b, prime) {
         return Added::Refused(Refusal::WrongOperand);
     }
     linear_at(earlier[a])
@@ -132,7 +142,7 @@ fn mul_gate(a: usize, b: usize, earlier: &[u16]) -> Added
 
 // What a gate adds that comes after others, whose depths are given; or 16 or 17.
 fn add_gate(kind: u8, a: usize, b: usize, head: TableHead, earlier: &[u16]) -> Added
-    requires { ⌜ AreLow (now earlier) ⌝ }
+    requires { ⌜ AreLow (now earlier) × (b < 0x10000) × (head .prime % 2 ≡ 1) ⌝ }
     ensures { λ r. ⌜ addedAnswer r ≡ adding (now (earlier .entry)) (readFields (headIs head) (length (now (earlier .entry))) kind a b) ⌝ }
 {
     match kind {
@@ -140,7 +150,7 @@ fn add_gate(kind: u8, a: usize, b: usize, head: TableHead, earlier: &[u16]) -> A
         2 => slot_gate(a, b, arithmetic::wide(head.slots)),
         3 => sum_gate(a, b, earlier),
         4 => sum_gate(a, b, earlier),
-        5 => scale_gate(a, b, arithmetic::wide(head.prime), earlier),
+        5 => scale_gate(a, b, head.prime, earlier),
         6 => flip_gate(a, b, earlier),
         7 => mul_gate(a, b, earlier),
         _ => Added::Refused(Refusal::UnknownKind),
@@ -181,7 +191,7 @@ fn verdict_of(word: u32) -> Verdict
 
 // What the gate adds whose record the bytes begin with, or the first of its rules that is broken.
 pub fn read_gate(bytes: &[u8], head: TableHead, earlier: &[u16]) -> Added
-    requires { ⌜ (8 ≤ length (now bytes)) × AreLow (now earlier) ⌝ }
+    requires { ⌜ (8 ≤ length (now bytes)) × AreLow (now earlier) × (head .prime % 2 ≡ 1) ⌝ }
     ensures { λ r. ⌜ addedAnswer r ≡ adding (now (earlier .entry)) (readGate (headIs head) (length (now (earlier .entry))) (now (bytes .entry))) ⌝ }
 {
     match verdict_of(word_at(bytes)) {

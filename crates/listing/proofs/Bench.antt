@@ -6,6 +6,7 @@ use Rattle.field.specs.Modular.{residue}
 use Rattle.field.specs.Polynomials.{orderConstants}
 use Rattle.field.specs.Primes.{primes, member, listed}
 use Rattle.field.specs.Sum.{sum, total}
+use Rattle.circuit.specs.Constant.{code}
 use Rattle.circuit.specs.Count.{counted, count}
 use Rattle.circuit.specs.Meaning.{interpret}
 use Rattle.circuit.specs.ProductTree.{least, multiply}
@@ -21,5 +22,5 @@ use Rattle.listing.specs.Lines.{gateLines}
 use Rattle.text.specs.Text.{spell, decimal}
 
 pub first-listing : FirstListing
-unfolding spell decimal gateLines orderConstants listed member primes sum readConditions total addAll conditionBy orderSegment digitsFrom ascending powerGate laterSum halves joinLowest multiply least flog clog counted count interpret residue
+unfolding spell decimal gateLines orderConstants listed member primes sum readConditions total addAll conditionBy orderSegment digitsFrom ascending powerGate code laterSum halves joinLowest multiply least flog clog counted count interpret residue
 first-listing = refl

@@ -9,9 +9,11 @@ use lib.ListN.{length, drop, length-append}
 use Rattle.answer.specs.Outcome.{Answer, refused, accepted, Outcome}
 use Rattle.answer.specs.Report.{Report}
 use Rattle.answer.proofs.Outcome.{refused≢accepted, accepted-same}
+use Rattle.field.proofs.Primes.{listed-is-odd-prime}
 use Rattle.circuit.specs.Report.{report}
 use Rattle.circuit.specs.Table.{tableBytes, mostGates}
 use Rattle.circuit.proofs.Reading.{table-length}
+use Rattle.circuit.proofs.WellFormed.{well-formed}
 use Rattle.query.specs.Card.{Card}
 use Rattle.query.specs.Outcomes.{tableRoom, building}
 use Rattle.query.specs.Reading.{readCard}
@@ -45,9 +47,12 @@ module _ (bytes lent : List ℕ) (room : 8 * (mostGates + 1) ≤ length lent) wh
           let b = outcome card e in
           let same : told ≡ report table = accepted-same (h ∙ ap (λ (o : Outcome Report). o .answer) b) in
           let size = length-append (tableBytes table) later in
+          let formed = well-formed table (exact-size bytes card e .2) in
+          let prime = listed-is-odd-prime (table .head .prime) .0 (formed .prime) .high in
+          let lines = lines-of (table .head) (omega arith) 0 (table .gates) later (formed .fitted) in
           rw (same, b) (
             omega (arith, size, table-length table),
-            rw e (ap (λ (text : List ℕ). summaryLine (report table) ++ text) (sym (lines-of 0 (table .gates) later))),
+            rw e (ap (λ (text : List ℕ). summaryLine (report table) ++ text) (sym lines)),
           )
 
   pub lists-refusal : (number : ℕ) → refused number ≡ building bytes lent .answer → listing bytes ≡ refusalLine number

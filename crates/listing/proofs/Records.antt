@@ -1,17 +1,20 @@
 -- The lines of a table's records are those of its gates, and are put one after the other.
 -- Assumes nothing.
 use mathlib.Core.Path.{_≡_, refl, sym, ap, ap₂, _∙_}
+use mathlib.Core.Bool.{true}
 use mathlib.Core.List.{List, [], _∷_, _++_, append-assoc, append-nil}
-use Prim.Native.Nat.{ℕ, zero, suc, _+_, _-_, _*_, _/_, _%_, _<_}
+use Prim.Native.Nat.{ℕ, zero, suc, _+_, _-_, _*_, _/_, _%_, _≤_, _<_}
 use native.Mathlib.Omega.{arith}
 use lib.ListN.{length, drop}
 use lib.Seq.{drop-drop}
 use Rattle.circuit.specs.Gate.{Gate, Left, Right, Add, Sub, Scale, Flip, Mul, fields, gateBytes}
-use Rattle.circuit.specs.Table.{gatesBytes}
+use Rattle.circuit.specs.Table.{Head, gatesBytes, fits, allFit}
+use Rattle.circuit.proofs.Constant.{twos-complement}
+use Rattle.circuit.proofs.Fitting.{Fitted, fitted, fit-cons}
 use Rattle.records.proofs.Records.{lentAt, lent-is}
-use Rattle.listing.specs.Lines.{gateLine, gateLines}
+use Rattle.listing.specs.Lines.{constantText, operandText, gateLine, gateLines}
 use Rattle.text.specs.Putting.{Fits}
-use Rattle.listing.specs.Records.{nameOf, recordLine, recordLines}
+use Rattle.listing.specs.Records.{nameOf, operandOf, recordLine, recordLines}
 use Rattle.listing.specs.Words.{kindName}
 use Rattle.text.proofs.Putting.{begins}
 
@@ -24,17 +27,32 @@ name-of (Left a) = refl
 name-of (Right a) = refl
 name-of (Add a b) = refl
 name-of (Sub a b) = refl
-name-of (Scale a b) = refl
+name-of (Scale a c) = refl
 name-of (Flip a) = refl
 name-of (Mul a b) = refl
 
-line-of : (k : ℕ) (g : Gate) (later : List ℕ) → recordLine k (gateBytes g ++ later) ≡ gateLine k g
-line-of k g later = rw (whole (fields g .a), whole (fields g .b), name-of g)
+module _ (head : Head) (small : head .prime ≤ 0x10000) where
+  -- a constant within its range is read back from its sixteen bits
+  operand-of : (k : ℕ) (g : Gate) → Fitted head k g → operandOf (fields g .kind) (fields g .b) ≡ operandText g
+  operand-of k (Left a) h = refl
+  operand-of k (Right a) h = refl
+  operand-of k (Add a b) h = refl
+  operand-of k (Sub a b) h = refl
+  operand-of k (Scale a c) h = ap constantText (twos-complement .0 (head .prime) c small (h .1) .1)
+  operand-of k (Flip a) h = refl
+  operand-of k (Mul a b) h = refl
 
-pub lines-of : (k : ℕ) (gs : List Gate) (later : List ℕ) → recordLines k (length gs) (gatesBytes gs ++ later) ≡ gateLines k gs
-unfolding recordLines gateLines gatesBytes
-lines-of k [] later = refl
-lines-of k (g ∷ gs) later = ap₂ _++_ (line-of k g (gatesBytes gs ++ later)) (lines-of (suc k) gs later)
+  line-of : (k : ℕ) (g : Gate) (later : List ℕ) → fits head k g ≡ true → recordLine k (gateBytes g ++ later) ≡ gateLine k g
+  line-of k g later t =
+      rw (whole (fields g .a), whole (fields g .b), name-of g, operand-of k g (fitted head k g t))
+
+  pub lines-of : (k : ℕ) (gs : List Gate) (later : List ℕ) → allFit head k gs ≡ true
+      → recordLines k (length gs) (gatesBytes gs ++ later) ≡ gateLines k gs
+  unfolding recordLines gateLines gatesBytes
+  lines-of k [] later t = refl
+  lines-of k (g ∷ gs) later t =
+      let s = fit-cons head k g gs t in
+      ap₂ _++_ (line-of k g (gatesBytes gs ++ later) (s .0)) (lines-of (suc k) gs later (s .1))
 
 -- the lines of some records, and of those after them
 lines-split : (k m n : ℕ) (bytes : List ℕ)

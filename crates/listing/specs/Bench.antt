@@ -5,7 +5,7 @@ use mathlib.Core.List.{List, [], _∷_, _++_}
 use Rattle.query.specs.Bench.{firstCard}
 use Rattle.listing.specs.Listing.{listing}
 
--- "Card C5 48 03 4B 01 00 C5 51 01 01 gives all of:"
+-- "Card C5 48 03 4B 01 00 C5 51 01 01 gives all of:", with "line 5 .. `5 SCALE 3 -1`" (document 02, E3)
 abbrev pub firstListing : List ℕ
 firstListing =
     -- gates 7 products 0 squares 1 cost 75 depth 1
@@ -20,8 +20,8 @@ firstListing =
     ++ (51 ∷ 32 ∷ 77 ∷ 85 ∷ 76 ∷ 32 ∷ 50 ∷ 32 ∷ 50 ∷ 10 ∷ [])
     -- 4 SCALE 2 1
     ++ (52 ∷ 32 ∷ 83 ∷ 67 ∷ 65 ∷ 76 ∷ 69 ∷ 32 ∷ 50 ∷ 32 ∷ 49 ∷ 10 ∷ [])
-    -- 5 SCALE 3 2
-    ++ (53 ∷ 32 ∷ 83 ∷ 67 ∷ 65 ∷ 76 ∷ 69 ∷ 32 ∷ 51 ∷ 32 ∷ 50 ∷ 10 ∷ [])
+    -- 5 SCALE 3 -1
+    ++ (53 ∷ 32 ∷ 83 ∷ 67 ∷ 65 ∷ 76 ∷ 69 ∷ 32 ∷ 51 ∷ 32 ∷ 45 ∷ 49 ∷ 10 ∷ [])
     -- 6 ADD 4 5
     ++ (54 ∷ 32 ∷ 65 ∷ 68 ∷ 68 ∷ 32 ∷ 52 ∷ 32 ∷ 53 ∷ 10 ∷ [])
 

@@ -14,7 +14,7 @@ kindName (Add a b) = 65 ∷ 68 ∷ 68 ∷ []
 -- SUB
 kindName (Sub a b) = 83 ∷ 85 ∷ 66 ∷ []
 -- SCALE
-kindName (Scale a b) = 83 ∷ 67 ∷ 65 ∷ 76 ∷ 69 ∷ []
+kindName (Scale a c) = 83 ∷ 67 ∷ 65 ∷ 76 ∷ 69 ∷ []
 -- FLIP
 kindName (Flip a) = 70 ∷ 76 ∷ 73 ∷ 80 ∷ []
 -- MUL

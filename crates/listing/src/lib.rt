@@ -4,15 +4,16 @@ use answer::Reported;
 use records::MOST_GATES;
 use records::RECORD;
 ghost use mathlib.Core.Path.{_≡_};
-ghost use Prim.Native.Nat.{_+_, _*_, _≤_};
+ghost use Prim.Native.Nat.{_+_, _*_, _≤_, _<_};
 ghost use lib.ListN.{length, drop};
 ghost use lib.Seq.{sets};
 ghost use Rattle.answer.specs.Report.{reportOf};
+ghost use Rattle.circuit.specs.Constant.{signed};
 ghost use Rattle.query.specs.Outcomes.{building};
-ghost use Rattle.listing.specs.Lines.{summaryLine, refusalLine};
+ghost use Rattle.listing.specs.Lines.{constantText, summaryLine, refusalLine};
 ghost use Rattle.listing.specs.Listing.{listing};
 ghost use Rattle.text.specs.Putting.{Puts, Fits};
-ghost use Rattle.listing.specs.Records.{nameOf, recordLine, recordLines};
+ghost use Rattle.listing.specs.Records.{nameOf, operandOf, recordLine, recordLines};
 
 // The bytes of the longest card.
 pub const MOST_CARD: usize = card::HEAD + card::MOST_RECORD * card::MOST_CONDITIONS;
@@ -40,6 +41,28 @@ fn put_kind(out: &mut [u8], at: usize, kind: u8) -> usize
     }
 }
 
+// A constant by its sixteen bits, with its sign, after a space.
+fn put_constant(out: &mut [u8], at: usize, b: u32) -> usize
+    requires { ⌜ (b < 0x10000) × Fits (now out) at (constantText (signed b)) ⌝ }
+    ensures { λ r. ⌜ Puts (now (out .entry)) at (constantText (signed b)) (now (out .exit)) r ⌝ }
+{
+    if b < 0x8000 {
+        return text::put_labelled(out, at, b" ", b);
+    }
+    text::put_labelled(out, at, b" -", 0x10000 - b)
+}
+
+// b of a gate, after a space: of a SCALE a constant, of any other kind a number.
+fn put_operand(out: &mut [u8], at: usize, kind: u8, b: u32) -> usize
+    requires { ⌜ (b < 0x10000) × Fits (now out) at (operandOf kind b) ⌝ }
+    ensures { λ r. ⌜ Puts (now (out .entry)) at (operandOf kind b) (now (out .exit)) r ⌝ }
+{
+    match kind {
+        5 => put_constant(out, at, b),
+        _ => text::put_labelled(out, at, b" ", b),
+    }
+}
+
 // The line of gate number k, whose record the bytes begin with.
 fn put_gate_line(out: &mut [u8], at: usize, k: u16, bytes: &[u8]) -> usize
     requires { ⌜ (8 ≤ length (now bytes)) × Fits (now out) at (recordLine k (now bytes)) ⌝ }
@@ -51,7 +74,7 @@ fn put_gate_line(out: &mut [u8], at: usize, k: u16, bytes: &[u8]) -> usize
     let kind = text::put_text(out, space, b" ");
     let first = put_kind(out, kind, bytes[2]);
     let second = text::put_labelled(out, first, b" ", a);
-    let end = text::put_labelled(out, second, b" ", b);
+    let end = put_operand(out, second, bytes[2], b);
     text::put_text(out, end, b"\n")
 }
 

@@ -1,22 +1,27 @@
 -- The terms of an order digit: where the constants of a card stand, what is left of the terms to write, and the depth of their sum.
 -- Assumes nothing.
 use mathlib.Core.Path.{_≡_, refl, ap, _∙_}
-use mathlib.Core.List.{List, [], _∷_, _++_, map}
-use Prim.Native.Nat.{ℕ, zero, suc, _+_, _-_, _*_, _/_, _%_, _≤_, _<_, max}
+use mathlib.Core.List.{List, [], _∷_, _++_, map, map-map}
+use Prim.Native.Nat.{ℕ, zero, suc, _+_, _-_, _*_, _/_, _≤_, _<_, max}
 use native.Mathlib.Omega.{arith}
 use native.Mathlib.Decide.{decLe}
 use native.Mathlib.Nat.{lt-of-not-le, max-eq-right}
 use lib.ListN.{length, length-map, length-append, getD, List·getD-append}
 use lib.Seq.{getD-at}
+use Rattle.field.specs.Half.{half}
 use Rattle.field.specs.Logarithm.{clog}
 use Rattle.field.specs.Polynomials.{everySecond, orderExponents, orderConstant, orderConstants}
 use Rattle.field.proofs.Logarithm.{clog-mono}
 use Rattle.field.proofs.OrderConstants.{length-second, second-at}
+use Rattle.field.proofs.Polynomials.{constant-below}
+use Rattle.circuit.specs.Constant.{code, signed, bitsOf}
 use Rattle.circuit.specs.Gate.{Gate, Scale, Add}
 use Rattle.circuit.specs.Sums.{laterSum}
-use Rattle.comparison.specs.OrderDigit.{half, powerGate, term, terms}
+use Rattle.circuit.proofs.Constant.{bits-code}
+use Rattle.comparison.specs.OrderDigit.{powerGate, term, terms}
 use Rattle.comparison.proofs.OrderDigit.{exponents-length}
 use Rattle.comparison.proofs.Powers.{gate-low, gate-high}
+use Rattle.writer.specs.Modulus.{Modulus}
 use Rattle.order.specs.Prepared.{Constants}
 
 -- ---- the constants
@@ -40,27 +45,35 @@ unfolding orderConstants
 constants-long p list c =
     rw (c .begins) (omega (
       arith,
-      length-append (map (orderConstant p) (orderExponents p)) (c .later),
+      length-append (map (bitsOf p) (orderConstants p)) (c .later),
+      length-map (orderConstants p) (bitsOf p),
       length-map (orderExponents p) (orderConstant p),
       exponents-length p,
     ))
 
-constant-at : (p : ℕ) (list : List ℕ) (m : ℕ) → Constants p list → m < half p + 1
-    → getD list m 0 ≡ orderConstant p (getD (orderExponents p) m 0)
-unfolding orderConstants
-constant-at p list m c l = rw (c .begins) (mapped-at (orderConstant p) (orderExponents p) (c .later) m (omega (arith, exponents-length p)))
+module _ (p : ℕ) (modulus : Modulus p) (list : List ℕ) (c : Constants p list) where
+  -- number m of the list is read as the constant of the exponent number m
+  constant-at : (m : ℕ) → m < half p + 1 → signed (getD list m 0) ≡ code p (orderConstant p (getD (orderExponents p) m 0))
+  unfolding orderConstants
+  constant-at m l =
+      let written : ℕ → ℕ = λ i. bitsOf p (orderConstant p i) in
+      let i = getD (orderExponents p) m 0 in
+      let begins = c .begins ∙ ap (λ (bits : List ℕ). bits ++ c .later) (map-map (bitsOf p) (orderConstant p) (orderExponents p)) in
+      let here : getD list m 0 ≡ written i
+      = rw begins (mapped-at written (orderExponents p) (c .later) m (omega (arith, exponents-length p))) in
+      ap signed here ∙ bits-code p (orderConstant p i) (modulus .1) (omega (arith, modulus)) (constant-below p i (omega (arith, modulus))) .1
 
-pub constant-odd : (p i : ℕ) (list : List ℕ) → Constants p list → i % 2 ≡ 1 → i < p - 1 → getD list (i / 2) 0 ≡ orderConstant p i
-unfolding orderExponents
-constant-odd p i list c odd l =
-    let e : 1 + 2 * (i / 2) ≡ i = omega arith in
-    constant-at p list (i / 2) c (omega arith) ∙ ap (orderConstant p) (second-then (half p) 1 (i / 2) _ (omega arith) ∙ e)
+  pub constant-odd : (m : ℕ) → m < half p → signed (getD list m 0) ≡ code p (orderConstant p (2 * m + 1))
+  unfolding orderExponents
+  constant-odd m l =
+      let e : 1 + 2 * m ≡ 2 * m + 1 = omega arith in
+      constant-at m (omega arith) ∙ ap (λ i. code p (orderConstant p i)) (second-then (half p) 1 m _ l ∙ e)
 
-pub constant-top : (p : ℕ) (list : List ℕ) → Constants p list → getD list ((p - 1) / 2) 0 ≡ orderConstant p (p - 1)
-unfolding orderExponents
-constant-top p list c =
-    constant-at p list ((p - 1) / 2) c (omega arith)
-    ∙ ap (orderConstant p) (getD-at (everySecond (half p) 1) (p - 1) [] 0 (half p) (length-second (half p) 1))
+  pub constant-top : signed (getD list (half p) 0) ≡ code p (orderConstant p (p - 1))
+  unfolding orderExponents
+  constant-top =
+      constant-at (half p) (omega arith)
+      ∙ ap (λ i. code p (orderConstant p i)) (getD-at (everySecond (half p) 1) (p - 1) [] 0 (half p) (length-second (half p) 1))
 
 -- ---- what is left to write
 
@@ -75,7 +88,7 @@ place-from p z i = go (decLe i (half p))
 abbrev pub termsFrom : ℕ → ℕ → ℕ → ℕ → ℕ → List Gate
 termsFrom p z k sum i = laterSum k sum (map (term p z) (exponentsFrom p i))
 
-pub terms-first : (p z k : ℕ) → 3 ≤ p → terms p z k (orderExponents p) ≡ Scale z (orderConstant p 1) ∷ termsFrom p z (k + 1) k 3
+pub terms-first : (p z k : ℕ) → 3 ≤ p → terms p z k (orderExponents p) ≡ Scale z (code p (orderConstant p 1)) ∷ termsFrom p z (k + 1) k 3
 unfolding orderExponents everySecond
 terms-first p z k three =
     let e : (p - 1) / 2 ≡ suc ((p - 3) / 2) = omega arith in
@@ -84,7 +97,7 @@ terms-first p z k three =
     rw (e, next, gate)
 
 pub later-cons : (p z k sum i : ℕ) → i < p - 1
-    → termsFrom p z k sum i ≡ Scale (z + powerGate p 0 i) (orderConstant p i) ∷ Add sum k ∷ termsFrom p z (k + 2) (k + 1) (i + 2)
+    → termsFrom p z k sum i ≡ Scale (z + powerGate p 0 i) (code p (orderConstant p i)) ∷ Add sum k ∷ termsFrom p z (k + 2) (k + 1) (i + 2)
 unfolding laterSum everySecond
 later-cons p z k sum i l =
     let e : (p - i) / 2 ≡ suc ((p - (i + 2)) / 2) = omega arith in
@@ -94,7 +107,7 @@ later-cons p z k sum i l =
     rw (e, two, next, after, place-from p z i)
 
 pub later-top : (p z k sum i : ℕ) → p - 1 ≤ i
-    → termsFrom p z k sum i ≡ Scale (z + powerGate p 0 (p - 1)) (orderConstant p (p - 1)) ∷ Add sum k ∷ []
+    → termsFrom p z k sum i ≡ Scale (z + powerGate p 0 (p - 1)) (code p (orderConstant p (p - 1))) ∷ Add sum k ∷ []
 unfolding laterSum everySecond
 later-top p z k sum i l =
     let e : (p - i) / 2 ≡ 0 = omega arith in

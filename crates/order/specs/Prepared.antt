@@ -1,9 +1,10 @@
 -- What order digits go by, as it is lent to each of them, and what they ask.
 use mathlib.Core.Path.{_≡_}
-use mathlib.Core.List.{List, _++_}
+use mathlib.Core.List.{List, _++_, map}
 use Prim.Native.Nat.{ℕ, _+_, _<_}
 use lib.ListN.{length}
 use Rattle.field.specs.Polynomials.{orderConstants}
+use Rattle.circuit.specs.Constant.{bitsOf}
 use Rattle.circuit.specs.Gate.{Gate}
 use Rattle.comparison.specs.OrderDigit.{powerCount}
 use Rattle.powers.specs.Powers.{Deep}
@@ -11,10 +12,10 @@ use Rattle.writer.specs.declared.Pen.{Pen}
 use Rattle.writer.specs.Modulus.{Modulus}
 use Rattle.writer.specs.Pen.{Room}
 
--- a list that begins with the constants of p
+-- a list that begins with the constants of p, as SCALEs have them
 pub record Constants (p : ℕ) (list : List ℕ) : Type 0 where
   pub later : List ℕ
-  pub begins : list ≡ orderConstants p ++ later
+  pub begins : list ≡ map (bitsOf p) (orderConstants p) ++ later
 
 -- the constants of p, and the depths of z and its powers
 pub record Prepared (p : ℕ) (constants depths : List ℕ) : Type 0 where

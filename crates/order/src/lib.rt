@@ -30,13 +30,13 @@ struct Tested {
     equal: Node,
 }
 
-// The terms: a SCALE of each power that has a constant, and their sum.
+// The terms: a SCALE of each power that has a constant, and their sum. Term m is of z^(2m+1), and the last one of z^(p-1).
 fn put_terms(
     table: &mut [u8],
     pen: Pen,
     z: u16,
     p: u16,
-    constants: &[u8],
+    constants: &[u16],
     depths: &[u16],
 ) -> Written
     requires { ⌜ Room (now table) pen p × Modulus p × (z ≤ mostGates) ⌝ }
@@ -45,7 +45,7 @@ fn put_terms(
     ensures moves { λ r. ⌜ Moved pen p (r .pen) ⌝ }
     ensures deepens { λ r. ⌜ (r .node .gate ≡ pen .next + (p - 1)) × (r .node .depth ≡ digitDepth p) ⌝ }
 {
-    let first = writer::put_term(table, pen, z, constants[0]);
+    let first = writer::put_scale(table, pen, z, constants[0]);
     let mut sum = Written {
         pen: first,
         node: Node {
@@ -53,20 +53,15 @@ fn put_terms(
             depth: depths[0],
         },
     };
-    let mut i: u16 = 3;
-    while i < p - 1 {
-        let power = powers::power_at(z, p, i, depths);
-        sum = writer::add_term(table, sum.pen, sum.node, power, constants[(i / 2) as usize]);
-        i += 2;
+    let half = (p - 1) / 2;
+    let mut m: u16 = 1;
+    while m < half {
+        let power = powers::power_at(z, p, 2 * m + 1, depths);
+        sum = writer::add_term(table, sum.pen, sum.node, power, constants[m as usize]);
+        m += 1;
     }
     let top = powers::power_at(z, p, p - 1, depths);
-    writer::add_term(
-        table,
-        sum.pen,
-        sum.node,
-        top,
-        constants[((p - 1) / 2) as usize],
-    )
+    writer::add_term(table, sum.pen, sum.node, top, constants[half as usize])
 }
 
 // E, of every digit but the lowest: the digit is number j, and top is z^(p-1).
@@ -95,7 +90,7 @@ fn put_order_digit(
     backward: bool,
     slots: Slots,
     j: u16,
-    constants: &[u8],
+    constants: &[u16],
     depths: &[u16],
 ) -> Tested
     requires { ⌜ Provided (now table) pen (orderDigit (baseTests p) (orderCondition backward slots) j (pen .next)) p (now constants) (now depths) ⌝ }
@@ -124,7 +119,7 @@ fn put_order_digits(
     p: u16,
     backward: bool,
     slots: Slots,
-    constants: &[u8],
+    constants: &[u16],
     depths: &[u16],
     less: &mut [u16],
     less_depths: &mut [u16],
@@ -160,7 +155,7 @@ pub fn put_order(
     p: u16,
     backward: bool,
     slots: Slots,
-    constants: &[u8],
+    constants: &[u16],
     depths: &[u16],
 ) -> Written
     requires { ⌜ Provided (now table) pen (orderSegment (baseTests p) (orderCondition backward slots) (pen .next) .gates) p (now constants) (now depths) ⌝ }

@@ -11,10 +11,11 @@ use native.Mathlib.Omega.{arith}
 use native.Mathlib.Numerals.{add-one}
 use lib.ListN.{length, getD, set}
 use lib.Seq.{getD-set-same, getD-set-other}
+use Rattle.field.specs.Half.{half}
 use Rattle.field.specs.Logarithm.{clog}
 use Rattle.field.specs.Polynomials.{everySecond}
 use Rattle.field.proofs.Logarithm.{clog-small}
-use Rattle.comparison.specs.OrderDigit.{half, ascending, powerOf, powerCount, powerGate}
+use Rattle.comparison.specs.OrderDigit.{ascending, powerOf, powerCount, powerGate}
 use Rattle.comparison.proofs.Powers.{gate-low, gate-high}
 use Rattle.powers.specs.Powers.{IsWritten, Deep}
 

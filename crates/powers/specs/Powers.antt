@@ -4,8 +4,9 @@ use mathlib.Core.List.{List}
 use mathlib.Core.Logic.{_⊎_}
 use Prim.Native.Nat.{ℕ, _-_, _%_, _≤_, _<_}
 use lib.ListN.{getD}
+use Rattle.field.specs.Half.{half}
 use Rattle.field.specs.Logarithm.{clog}
-use Rattle.comparison.specs.OrderDigit.{half, powerGate}
+use Rattle.comparison.specs.OrderDigit.{powerGate}
 
 -- so many entries hold the depths for any odd p that is a byte
 abbrev pub mostPowers : ℕ

@@ -66,6 +66,9 @@ module _ (bytes : List ℕ) (card : Card) (e : readCard bytes ≡ accepted card)
     abbrev three : 3 ≤ p
     three = known .prime .low
 
+    abbrev odd : p % 2 ≡ 1
+    odd = known .prime .odd
+
     abbrev head : Head
     head = tableBy t card .head
 
@@ -91,13 +94,13 @@ module _ (bytes : List ℕ) (card : Card) (e : readCard bytes ≡ accepted card)
     output-last = end-last head (card .conditions) draft sound outputs-length (known .count .0) (card .form)
 
     pub depth-told : endOf card draft .output .depth ≡ depth gates
-    depth-told = end-depth head (card .conditions) draft sound outputs-length (known .count .0) (card .form) (known .weights)
+    depth-told = end-depth head (card .conditions) draft sound outputs-length (known .count .0) odd (card .form) (known .weights)
 
     pub gates-fit : allFit head 0 gates ≡ true
     gates-fit =
         fit-append head 0 (draft .gates) (endOf card draft .gates) (sound .fitted)
         (rw (zero-add (length (draft .gates)))
-        (end-fits head (card .conditions) draft sound outputs-length (known .count .0) (card .form) (known .weights)))
+        (end-fits head (card .conditions) draft sound outputs-length (known .count .0) odd (card .form) (known .weights)))
 
     -- ---- the product tree
 
@@ -164,7 +167,7 @@ module _ (bytes : List ℕ) (card : Card) (e : readCard bytes ≡ accepted card)
           let cs = card .conditions in
           let k = length (draft .gates) in
           let ends = sum-end (card .form) p cs k (draft .outputs) asks in
-          let solved = end-solved head cs draft sound outputs-length (known .count .0) alg (card .form) (known .weights) in
+          let solved = end-solved head cs draft sound outputs-length (known .count .0) alg odd (card .form) (known .weights) in
           let most : scoreOf (base p) left right cs < p = omega (arith, score-most (base p) left right cs, known .weights asks) in
           output-is (scoreOf (base p) left right cs) most
           (ap (λ (end : Segment). entryAt alg gates (end .output .gate) % p) ends

@@ -4,7 +4,7 @@
 use mathlib.Core.Path.{_≡_, refl, sym, ap, _∙_}
 use mathlib.Core.Bool.{true, false, true≢false}
 use mathlib.Core.List.{List, _++_}
-use Prim.Native.Nat.{ℕ, suc, _-_, _≤_, _<_}
+use Prim.Native.Nat.{ℕ, suc, _-_, _%_, _≤_, _<_}
 use native.Mathlib.Omega.{arith}
 use lib.ListN.{length, length-append}
 use Rattle.circuit.specs.Count.{count, isProduct, isSquare}
@@ -66,10 +66,10 @@ module _ (head : Head) (cs : List Condition) (draft : Draft) (sound : Sound head
   abbrev some-output : 1 ≤ length outputs
   some-output = omega arith
 
-  pub end-fits : (form : Form) → Weighed form → allFit head k (end form .gates) ≡ true
-  end-fits Plain w = product-fits head k outputs some-output (sound .order)
-  end-fits Scored w =
-      score-fits head k cs outputs (each-below p cs (w refl))
+  pub end-fits : p % 2 ≡ 1 → (form : Form) → Weighed form → allFit head k (end form .gates) ≡ true
+  end-fits odd Plain w = product-fits head k outputs some-output (sound .order)
+  end-fits odd Scored w =
+      score-fits head odd k cs outputs (each-below p cs (w refl))
       (every-map (λ (f : Node) bounds. bounds .1) outputs (order-every 0 k outputs (sound .order)))
 
   pub end-counts : (form : Form)
@@ -90,10 +90,10 @@ module _ (head : Head) (cs : List Condition) (draft : Draft) (sound : Sound head
   last-gate form = omega (arith, end-last form)
 
   -- entries of all gates solve those of the end
-  pub end-solved : {A : Type 0} (alg : Algebra A) (form : Form) → Weighed form
+  pub end-solved : {A : Type 0} (alg : Algebra A) → p % 2 ≡ 1 → (form : Form) → Weighed form
       → Solves alg (entryAt alg (gatesBy form)) k (end form .gates)
-  end-solved alg form w =
-      later-solved alg (draft .gates) (end form .gates) (all-named head k (end form .gates) (end-fits form w))
+  end-solved alg odd form w =
+      later-solved alg (draft .gates) (end form .gates) (all-named head k (end form .gates) (end-fits odd form w))
 
   -- each output's node tells the depth of its gate in the whole table
   pub output-depths : (form : Form) → Every (λ (f : Node). entryAt depths (gatesBy form) (f .gate) ≡ f .depth) outputs
@@ -102,13 +102,13 @@ module _ (head : Head) (cs : List Condition) (draft : Draft) (sound : Sound head
       (outputs-kept head depths draft (end form .gates) sound) (sound .nodes)
 
   -- and the node of the end tells that of the table
-  pub end-depth : (form : Form) → Weighed form → end form .output .depth ≡ depth (gatesBy form)
-  end-depth Plain w =
+  pub end-depth : p % 2 ≡ 1 → (form : Form) → Weighed form → end form .output .depth ≡ depth (gatesBy form)
+  end-depth odd Plain w =
       tree-depth k outputs some-output
       ∙ sym (product-depth (draft .gates) outputs some-output (sound .order) (sound .nodes))
       ∙ ap (entryAt depths (gatesBy Plain)) (sym (last-gate Plain))
-  end-depth Scored w =
+  end-depth odd Scored w =
       let E = entryAt depths (gatesBy Scored) in
       ap largest (sym (map-same (λ (f : Node). E (f .gate)) (λ (f : Node). f .depth) outputs (output-depths Scored)))
-      ∙ sym (score-deep p E k cs outputs many some (end-solved depths Scored w))
+      ∙ sym (score-deep p E k cs outputs many some (end-solved depths odd Scored w))
       ∙ ap E (sym (last-gate Scored))

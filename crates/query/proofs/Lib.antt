@@ -6,7 +6,7 @@ pub mod Reading
 pub mod CardFacts
 pub mod OverConditions
 pub mod Whole
-mod Score
+pub mod Score
 mod Ending
 pub mod AnyTests
 pub mod Promises

@@ -12,23 +12,26 @@ use lib.ListN.{length, length-map, getD, drop}
 use Rattle.field.specs.Bit.{bit}
 use Rattle.field.specs.Sum.{total}
 use Rattle.field.proofs.Modular.{mod-same, add-cong, mulMod-is}
-use Rattle.circuit.specs.Constant.{code}
+use Rattle.circuit.specs.Constant.{Constant, code}
 use Rattle.circuit.specs.Count.{count, isProduct, isSquare}
 use Rattle.circuit.specs.Depth.{depths}
 use Rattle.circuit.specs.Every.{Every}
 use Rattle.circuit.specs.Gate.{Gate, Scale}
 use Rattle.circuit.specs.Meaning.{meaning, Solves}
+use Rattle.circuit.specs.OldConstants.{oldGate}
 use Rattle.circuit.specs.Segment.{Node}
-use Rattle.circuit.specs.Sums.{sumGate, largest}
+use Rattle.circuit.specs.Sums.{sumFrom, sumGate, largest}
 use Rattle.circuit.specs.Table.{Head, fits, allFit}
 use Rattle.circuit.specs.Value.{values}
 use Rattle.circuit.proofs.Constant.{code-fits, code-is}
 use Rattle.circuit.proofs.Fitting.{one-fits}
+use Rattle.circuit.proofs.OldConstants.{sum-old, old-constant}
 use Rattle.circuit.proofs.Sums.{sum-value, sum-depth, sum-count, sum-fits}
 use Rattle.comparison.specs.Condition.{Condition, holds}
 use Rattle.query.specs.Card.{totalWeight}
 use Rattle.query.specs.Holds.{truths, scoreOf}
 use Rattle.query.specs.Score.{weightsOf, scaledOutputs, scoreSum}
+use Rattle.query.specs.ScorePromises.{oldOutputs, OldWeights}
 
 -- ---- weights
 
@@ -65,7 +68,7 @@ module _ (p : ℕ) where
   terms-length cs outputs e = scaled-length (weightsOf cs) outputs (e ∙ sym (length-map cs (λ (c : Condition). c .weight)))
 
   -- none of them passes a test that no SCALE passes
-  scaled-none : (test : Gate → Bool) → ((a b : ℕ) → test (Scale a b) ≡ false) → (ws : List ℕ) (outputs : List Node)
+  scaled-none : (test : Gate → Bool) → ((a : ℕ) (c : Constant) → test (Scale a c) ≡ false) → (ws : List ℕ) (outputs : List Node)
       → count test (scaledOutputs p ws outputs) ≡ 0
   unfolding scaledOutputs count
   scaled-none test none [] outputs = refl
@@ -78,20 +81,20 @@ module _ (p : ℕ) where
   score-counts k cs outputs e =
       let counts = sum-count k (scaledOutputs p (weightsOf cs) outputs) in (
         omega (arith, counts .0, terms-length cs outputs e),
-        counts .1 ∙ scaled-none isProduct (λ a b. refl) (weightsOf cs) outputs,
-        counts .2 ∙ scaled-none isSquare (λ a b. refl) (weightsOf cs) outputs,
+        counts .1 ∙ scaled-none isProduct (λ a c. refl) (weightsOf cs) outputs,
+        counts .2 ∙ scaled-none isSquare (λ a c. refl) (weightsOf cs) outputs,
       )
 
 -- ---- what it names
 
-module _ (head : Head) (k : ℕ) where
+module _ (head : Head) (odd : head .prime % 2 ≡ 1) (k : ℕ) where
   scaled-fit : (ws : List ℕ) (outputs : List Node) → Every (λ (w : ℕ). w < head .prime) ws
       → Every (λ (f : Node). f .gate < k) outputs → Every (λ (g : Gate). fits head k g ≡ true) (scaledOutputs (head .prime) ws outputs)
   unfolding scaledOutputs
   scaled-fit [] outputs below named = tt
   scaled-fit (w ∷ ws) [] below named = tt
   scaled-fit (w ∷ ws) (f ∷ fs) below named = (
-    one-fits head k (Scale (f .gate) _) (named .0, code-fits (head .prime) w (below .0)),
+    one-fits head k (Scale (f .gate) (code (head .prime) w)) (named .0, code-fits (head .prime) w (below .0) odd),
     scaled-fit ws fs (below .1) (named .1),
   )
 
@@ -127,6 +130,20 @@ module _ (p : ℕ) (left right : List ℕ) (positive : 0 < p) (E : ℕ → ℕ) 
       mod-same p (ap (λ (n : ℕ). E (sumGate k n)) (sym long))
       ∙ sum-value p left right E k (scaledOutputs p (weightsOf cs) outputs) positive (omega arith) h
       ∙ scaled-total cs outputs below e
+
+-- ---- the constants that its terms had
+
+old-each : (p : ℕ) (ws : List ℕ) (outputs : List Node) → Every (λ (w : ℕ). w < p) ws
+    → map (oldGate p) (scaledOutputs p ws outputs) ≡ oldOutputs ws outputs
+unfolding scaledOutputs oldOutputs
+old-each p [] outputs below = refl
+old-each p (w ∷ ws) [] below = refl
+old-each p (w ∷ ws) (f ∷ fs) below =
+    ap₂ (λ (g : Gate) (gs : List Gate). g ∷ gs) (old-constant p (f .gate) w (below .0)) (old-each p ws fs (below .1))
+
+pub old-weights : OldWeights
+old-weights p k cs outputs below =
+    sum-old p k (scaledOutputs p (weightsOf cs) outputs) ∙ ap (sumFrom k) (old-each p (weightsOf cs) outputs (each-below p cs below))
 
 -- ---- its depth
 

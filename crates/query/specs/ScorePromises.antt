@@ -1,27 +1,32 @@
 -- Document 02, E1: what is proved of the table of every accepted score card, beside what `Promises` has of both forms:
 -- its output is the score, as a number and not only modulo p; a changed condition moves it by its weight at most; and its depth.
--- Proved in `proofs/ScorePromises.antt`.
+-- Proved in `proofs/ScorePromises.antt`, and `OldWeights` in `proofs/Score.antt`.
 use mathlib.Core.Path.{_≡_}
 use mathlib.Core.Logic.{_⊎_}
-use mathlib.Core.List.{List, _∷_, _++_, map}
+use mathlib.Core.List.{List, [], _∷_, _++_, map}
 use Prim.Native.Nat.{ℕ, _+_, _-_, _≤_, _<_}
 use lib.ListN.{length, getD}
 use Rattle.answer.specs.Outcome.{accepted}
 use Rattle.answer.specs.Report.{Report}
 use Rattle.field.specs.Logarithm.{clog}
 use Rattle.digits.specs.Number.{base}
+use Rattle.circuit.specs.Constant.{plus}
 use Rattle.circuit.specs.Depth.{depth}
+use Rattle.circuit.specs.Gate.{Gate, Scale}
 use Rattle.circuit.specs.Meaning.{output}
+use Rattle.circuit.specs.OldConstants.{oldGate}
 use Rattle.circuit.specs.Outcomes.{trimming, running}
-use Rattle.circuit.specs.Sums.{largest}
+use Rattle.circuit.specs.Segment.{Node}
+use Rattle.circuit.specs.Sums.{sumFrom, largest}
 use Rattle.circuit.specs.Table.{Table, tableBytes}
 use Rattle.circuit.specs.Value.{values}
 use Rattle.comparison.specs.Condition.{Condition}
-use Rattle.query.specs.Card.{Card, AsksScore}
+use Rattle.query.specs.Card.{Card, AsksScore, totalWeight}
 use Rattle.query.specs.Holds.{scoreOf}
 use Rattle.query.specs.Outcomes.{tableRoom, building}
 use Rattle.query.specs.Promises.{gatesOf, LeftSide, RightSide, Built}
 use Rattle.query.specs.Reading.{readCard}
+use Rattle.query.specs.Score.{weightsOf, scoreSum}
 use Rattle.query.specs.Whole.{tableOf}
 
 -- "The output is the sum of the weights of the conditions that hold.": the last gate, for all digits below (p+1)/2
@@ -91,3 +96,16 @@ BuiltScoreMoves =
     → running (building bytes lent .lent) left right work .answer ≡ accepted score
     → running (building bytes lent .lent) left′ right work′ .answer ≡ accepted score′
     → Near (c .weight) score score′
+
+-- the scaled outputs with the constants that they had: "each condition's output is scaled by its weight"
+unfoldable pub oldOutputs : List ℕ → List Node → List Gate
+oldOutputs [] outputs = []
+oldOutputs (w ∷ ws) [] = []
+oldOutputs (w ∷ ws) (f ∷ fs) = Scale (f .gate) (plus w) ∷ oldOutputs ws fs
+
+-- a SCALE's b is "equal to the old constant modulo p" (document 02, E3): where the weights' total is below p, as 26 asks, the terms of a score
+-- from gate number k on had the weights
+abbrev pub OldWeights : Type 0
+OldWeights =
+    (p k : ℕ) (conditions : List Condition) (outputs : List Node) → totalWeight conditions < p
+    → map (oldGate p) (scoreSum p conditions k outputs .gates) ≡ sumFrom k (oldOutputs (weightsOf conditions) outputs)

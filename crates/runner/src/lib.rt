@@ -4,10 +4,12 @@ use answer::Reported;
 use records::RECORD;
 use records::TableHead;
 ghost use mathlib.Core.Path.{_≡_};
+ghost use mathlib.Core.Bool.{true};
 ghost use mathlib.Core.List.{_++_};
 ghost use Prim.Native.Nat.{_+_, _*_, _≤_};
 ghost use lib.ListN.{length, drop};
 ghost use Rattle.answer.specs.Outcome.{accepted};
+ghost use Rattle.circuit.specs.Constant.{isConstant, constant, signed};
 ghost use Rattle.circuit.specs.Outcomes.{running};
 ghost use Rattle.circuit.specs.Reading.{readFields, readGate, readGates, reading};
 ghost use Rattle.circuit.specs.Value.{values};
@@ -20,6 +22,17 @@ ghost use Rattle.checker.specs.Reporting.{gatesRead};
 pub enum Ran {
     Output(u8),
     Refused(Refusal),
+}
+
+// The number below p that a constant is, from its sixteen bits.
+fn constant_of(b: usize, prime: u8) -> u8
+    requires { ⌜ isConstant prime (signed b) ≡ true ⌝ }
+    ensures { λ r. ⌜ r ≡ constant prime (signed b) ⌝ }
+{
+    if b < 0x8000 {
+        return b as u8;
+    }
+    (b + arithmetic::wide(prime) - 0x10000) as u8
 }
 
 // The value of a gate that comes after others, whose values are given.
@@ -41,7 +54,7 @@ fn value_of(
         2 => right[a],
         3 => arithmetic::add_mod(earlier[a], earlier[b], prime),
         4 => arithmetic::sub_mod(earlier[a], earlier[b], prime),
-        5 => arithmetic::mul_mod(earlier[a], b as u8, prime),
+        5 => arithmetic::mul_mod(earlier[a], constant_of(b, prime), prime),
         6 => arithmetic::sub_mod(1, earlier[a], prime),
         7 => arithmetic::mul_mod(earlier[a], earlier[b], prime),
         _ => 0,

@@ -7,6 +7,7 @@ use Rattle.field.specs.Polynomials.{orderConstants}
 use Rattle.field.specs.Primes.{primes, member, listed}
 use Rattle.field.specs.Sum.{sum, total}
 use Rattle.digits.specs.Number.{number, allBelow, digitsOf}
+use Rattle.circuit.specs.Constant.{code, signed}
 use Rattle.circuit.specs.Count.{counted, count}
 use Rattle.circuit.specs.Meaning.{interpret}
 use Rattle.circuit.specs.ProductTree.{least, multiply}
@@ -24,9 +25,9 @@ use Rattle.query.specs.Whole.{addAll}
 use Rattle.starred.specs.Starred.{starred, StarredCases, FullRangeRun}
 
 pub starred-cases : StarredCases
-unfolding starred orderConstants listed member primes number sum allBelow digitsOf readConditions total addAll conditionBy orderSegment equalitySegment digitsFrom ascending powerGate laterSum chain ones halves joinLowest equalityFactors multiply least flog clog counted count interpret gatesBytes readGates residue
+unfolding starred orderConstants listed member primes number sum allBelow digitsOf readConditions total addAll conditionBy orderSegment equalitySegment digitsFrom ascending powerGate code signed laterSum chain ones halves joinLowest equalityFactors multiply least flog clog counted count interpret gatesBytes readGates residue
 starred-cases = refl
 
 pub full-range-run : FullRangeRun
-unfolding orderConstants listed member primes number sum allBelow digitsOf readConditions total addAll conditionBy orderSegment equalitySegment digitsFrom ascending powerGate laterSum chain ones halves joinLowest equalityFactors multiply least flog clog counted count interpret gatesBytes readGates residue
+unfolding orderConstants listed member primes number sum allBelow digitsOf readConditions total addAll conditionBy orderSegment equalitySegment digitsFrom ascending powerGate code signed laterSum chain ones halves joinLowest equalityFactors multiply least flog clog counted count interpret gatesBytes readGates residue
 full-range-run = refl

@@ -53,7 +53,7 @@ encode p n x =
 abbrev decode : ℕ → List ℕ → Told
 decode p digits = single (decoding p digits)
 
--- the table of the first bench card, in the bytes of its listing: the head, then "0 LEFT 0 0" to "6 ADD 4 5"
+-- the table of the first bench card, in the bytes of its listing: the head, then "0 LEFT 0 0" to "6 ADD 4 5", with "5 SCALE 3 -1" (document 02, E3)
 abbrev firstTable : List ℕ
 firstTable =
     (0x47 ∷ 0x48 ∷ 3 ∷ 75 ∷ 1 ∷ 0 ∷ 7 ∷ 0 ∷ [])
@@ -62,7 +62,7 @@ firstTable =
     ++ (0x47 ∷ 0x54 ∷ 4 ∷ 0 ∷ 0 ∷ 0 ∷ 1 ∷ 0 ∷ [])
     ++ (0x47 ∷ 0x54 ∷ 7 ∷ 0 ∷ 2 ∷ 0 ∷ 2 ∷ 0 ∷ [])
     ++ (0x47 ∷ 0x54 ∷ 5 ∷ 0 ∷ 2 ∷ 0 ∷ 1 ∷ 0 ∷ [])
-    ++ (0x47 ∷ 0x54 ∷ 5 ∷ 0 ∷ 3 ∷ 0 ∷ 2 ∷ 0 ∷ [])
+    ++ (0x47 ∷ 0x54 ∷ 5 ∷ 0 ∷ 3 ∷ 0 ∷ 0xFF ∷ 0xFF ∷ [])
     ++ (0x47 ∷ 0x54 ∷ 3 ∷ 0 ∷ 4 ∷ 0 ∷ 5 ∷ 0 ∷ [])
 
 -- a card of one condition: p, s, its relation and n

@@ -19,6 +19,9 @@ decimal n = spell n n
 abbrev pub space : ℕ
 space = 32
 
+abbrev pub minusSign : ℕ
+minusSign = 45
+
 abbrev pub lineFeed : ℕ
 lineFeed = 10
 

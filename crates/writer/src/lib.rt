@@ -7,6 +7,7 @@ ghost use mathlib.Core.List.{[], _∷_};
 ghost use Prim.Native.Nat.{_+_, _*_, _≤_, _<_, max};
 ghost use lib.ListN.{length};
 ghost use lib.Seq.{sets};
+ghost use Rattle.circuit.specs.Constant.{signed};
 ghost use Rattle.circuit.specs.Count.{count as countOf, isProduct, isSquare};
 ghost use Rattle.circuit.specs.Gate.{row, recordBytes, Left, Right, Add, Sub, Scale, Flip, Mul};
 ghost use Rattle.circuit.specs.Segment.{times};
@@ -137,10 +138,10 @@ pub fn put_sub(table: &mut [u8], pen: Pen, a: u16, b: u16) -> Pen
     moved(pen)
 }
 
-// SCALE.
+// SCALE, by the sixteen bits of its constant.
 pub fn put_scale(table: &mut [u8], pen: Pen, a: u16, b: u16) -> Pen
     requires { ⌜ Room (now table) pen 1 ⌝ }
-    ensures wrote { λ r. ⌜ Wrote (now (table .entry)) pen (Scale a b ∷ []) (now (table .exit)) r ⌝ }
+    ensures wrote { λ r. ⌜ Wrote (now (table .entry)) pen (Scale a (signed b) ∷ []) (now (table .exit)) r ⌝ }
     ensures moves { λ r. ⌜ Moved pen 1 r ⌝ }
 {
     put_record(table, pen.next, 5, a, b);
@@ -201,23 +202,14 @@ pub fn multiply(table: &mut [u8], pen: Pen, a: Node, b: Node) -> Written
     }
 }
 
-// A term of a sum: the SCALE of a gate by a constant.
-pub fn put_term(table: &mut [u8], pen: Pen, operand: u16, constant: u8) -> Pen
-    requires { ⌜ Room (now table) pen 1 ⌝ }
-    ensures wrote { λ r. ⌜ Wrote (now (table .entry)) pen (Scale operand constant ∷ []) (now (table .exit)) r ⌝ }
-    ensures moves { λ r. ⌜ Moved pen 1 r ⌝ }
-{
-    put_scale(table, pen, operand, constant as u16)
-}
-
-// A term, and the sum with it.
-pub fn add_term(table: &mut [u8], pen: Pen, sum: Node, operand: Node, constant: u8) -> Written
+// A term of a sum, which is the SCALE of a gate, and the sum with it.
+pub fn add_term(table: &mut [u8], pen: Pen, sum: Node, operand: Node, b: u16) -> Written
     requires { ⌜ Room (now table) pen 2 ⌝ }
-    ensures wrote { λ r. ⌜ Wrote (now (table .entry)) pen (Scale (operand .gate) constant ∷ Add (sum .gate) (pen .next) ∷ []) (now (table .exit)) (r .pen) ⌝ }
+    ensures wrote { λ r. ⌜ Wrote (now (table .entry)) pen (Scale (operand .gate) (signed b) ∷ Add (sum .gate) (pen .next) ∷ []) (now (table .exit)) (r .pen) ⌝ }
     ensures moves { λ r. ⌜ Moved pen 2 (r .pen) ⌝ }
     ensures deepens { λ r. ⌜ (r .node .gate ≡ pen .next + 1) × (r .node .depth ≡ max (sum .depth) (operand .depth)) ⌝ }
 {
-    let term = put_term(table, pen, operand.gate, constant);
+    let term = put_scale(table, pen, operand.gate, b);
     let gate = term.next;
     let added = put_add(table, term, sum.gate, pen.next);
     Written {

@@ -2,6 +2,7 @@
 
 mod cards;
 mod coding;
+mod constants;
 mod relations;
 mod runs;
 mod score_cards;
@@ -36,5 +37,6 @@ pub fn cases() -> String {
     score_cards::write(&mut script);
     score_runs::write(&mut script);
     words::write(&mut script);
+    constants::write(&mut script);
     script.finish()
 }

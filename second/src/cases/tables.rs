@@ -3,7 +3,7 @@
 use super::writer::Script;
 use super::BENCH;
 use crate::card::card_bytes;
-use crate::field::PRIMES;
+use crate::field::{near_zero, PRIMES};
 use crate::random::Random;
 use crate::table::{Gate, Head, Kind};
 
@@ -31,11 +31,11 @@ fn head(p: u8, weight: u8, slots: u8, gates: usize) -> Head {
     }
 }
 
-fn gate(kind: Kind, a: u16, b: u16) -> Gate {
+pub fn gate(kind: Kind, a: u16, b: u16) -> Gate {
     Gate { kind, a, b }
 }
 
-fn table_of(p: u8, weight: u8, slots: u8, gates: &[Gate]) -> Vec<u8> {
+pub fn table_of(p: u8, weight: u8, slots: u8, gates: &[Gate]) -> Vec<u8> {
     let mut bytes = head(p, weight, slots, gates.len()).record().to_vec();
     for gate in gates {
         bytes.extend(gate.record());
@@ -213,7 +213,7 @@ fn lengths(script: &mut Script) {
 }
 
 /// A third gate of each kind, with operands on both sides of each border; at
-/// p=7 with two slots.
+/// p=7 with two slots. Those of a constant have cases of their own.
 fn operands_of_each_kind(script: &mut Script) {
     let operands = [
         (0, 0),
@@ -253,33 +253,29 @@ fn operands_of_a_far_gate(script: &mut Script) {
     script.build_exactly(&card_bytes(251, 50, &[(1, 1)]));
     let record = 8 * 301;
     let mut last = [0; 8];
-    for (kind, a, b) in [
-        (Kind::Left, 0, 0),
-        (Kind::Left, 1, 0),
-        (Kind::Left, 256, 0),
-        (Kind::Right, 0, 0),
-        (Kind::Right, 0, 256),
-        (Kind::Add, 299, 299),
-        (Kind::Add, 300, 0),
-        (Kind::Sub, 0, 299),
-        (Kind::Sub, 0, 300),
-        (Kind::Scale, 299, 250),
-        (Kind::Scale, 299, 251),
-        (Kind::Scale, 0, 256),
-        (Kind::Flip, 299, 0),
-        (Kind::Flip, 300, 0),
-        (Kind::Flip, 0, 1),
-        (Kind::Mul, 299, 298),
-        (Kind::Mul, 299, 299),
-        (Kind::Mul, 299, 556),
-        (Kind::Mul, 301, 44),
+    for far in [
+        gate(Kind::Left, 0, 0),
+        gate(Kind::Left, 1, 0),
+        gate(Kind::Left, 256, 0),
+        gate(Kind::Right, 0, 0),
+        gate(Kind::Right, 0, 256),
+        gate(Kind::Add, 299, 299),
+        gate(Kind::Add, 300, 0),
+        gate(Kind::Sub, 0, 299),
+        gate(Kind::Sub, 0, 300),
+        Gate::scale(299, -125),
+        Gate::scale(299, -126),
+        Gate::scale(0, 256),
+        gate(Kind::Flip, 299, 0),
+        gate(Kind::Flip, 300, 0),
+        gate(Kind::Flip, 0, 1),
+        gate(Kind::Mul, 299, 298),
+        gate(Kind::Mul, 299, 299),
+        gate(Kind::Mul, 299, 556),
+        gate(Kind::Mul, 301, 44),
     ] {
-        let bytes = gate(kind, a, b).record();
-        for place in 0..8 {
-            if bytes[place] != last[place] {
-                script.set(record + place, bytes[place]);
-            }
-        }
+        let bytes = far.record();
+        script.change(record, &last, &bytes);
         last = bytes;
         script.check();
         script.run(441, &[250], &[125]);
@@ -305,7 +301,7 @@ fn chains(script: &mut Script) {
     let mixed = vec![
         right,
         gate(Kind::Mul, 0, 0),
-        gate(Kind::Scale, 1, 0),
+        Gate::scale(1, 0),
         gate(Kind::Flip, 2, 0),
         gate(Kind::Sub, 0, 3),
         gate(Kind::Mul, 0, 4),
@@ -357,7 +353,7 @@ fn draw_gates(random: &mut Random, p: u8, slots: u8) -> Vec<Gate> {
     let mut gates = vec![gate(Kind::Left, 0, 0)];
     for number in 1..4 + random.below(16) {
         let slot = u16::from(random.byte_below(slots));
-        let constant = u16::from(random.byte_below(p));
+        let constant = near_zero(p, random.byte_below(p));
         let a = random.below(number) as u16;
         let b = random.below(number) as u16;
         gates.push(match random.below(8) {
@@ -365,7 +361,7 @@ fn draw_gates(random: &mut Random, p: u8, slots: u8) -> Vec<Gate> {
             1 => gate(Kind::Right, slot, 0),
             2 => gate(Kind::Add, a, b),
             3 => gate(Kind::Sub, a, b),
-            4 => gate(Kind::Scale, a, constant),
+            4 => Gate::scale(a, constant),
             5 => gate(Kind::Flip, a, 0),
             _ => gate(Kind::Mul, a, b),
         });

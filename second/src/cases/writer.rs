@@ -71,6 +71,15 @@ impl Script {
         self.line(format_args!("set {place} {byte}"));
     }
 
+    /// Sets the bytes from `start` on that are others than before.
+    pub fn change(&mut self, start: usize, before: &[u8], bytes: &[u8]) {
+        for (place, (&old, &new)) in (start..).zip(before.iter().zip(bytes)) {
+            if old != new {
+                self.set(place, new);
+            }
+        }
+    }
+
     pub fn cut(&mut self, length: usize) {
         self.line(format_args!("cut {length}"));
     }

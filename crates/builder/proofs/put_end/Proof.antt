@@ -4,10 +4,12 @@ use mathlib.Core.Path.{_≡_, ap}
 use Prim.Native.Nat.{_-_, _*_}
 use native.Mathlib.Omega.{arith}
 use borrow.Author.Needs.{needs}
+use Rattle.query.specs.Form.{Scored}
 use Rattle.query.specs.Formulas.{endSize}
 use Rattle.card.specs.declared.Form.{Form}
 use Rattle.card.specs.Parts.{formIs}
 use Rattle.card.proofs.ReadAs.{as-many}
+use Rattle.builder.specs.Ending.{Endable}
 use Rattle.builder.proofs.put_end.Statement.{statement}
 use Rattle.builder.proofs.put_end.Tie as tie
 
@@ -58,11 +60,13 @@ put-score-requires : tie.Need-put-score-requires
 put-score-requires c κs =
     let t = c .before .before .before in
     let s = startScore t in
-    record {
+    let ready : Endable (s .args .card .now) (s .args .head) (endSize Scored (s .args .head .count)) (s .args .table .now) (s .args .pen) (s .args .gates .now) (s .args .depths .now)
+    = record {
       reads = s .pre .0 .reads;
       room = omega (arith, s .pre .0 .room, score-size t);
       outputs = s .pre .0 .outputs;
-    }
+    } in
+    (ready, ap formIs (t .enum-told2 .given .1))
 
 same-length : tie.Need-same-length
 same-length c = search needs

@@ -58,7 +58,7 @@ read-gate-requires : tie.Need-read-gate-requires Inv-loop μ-loop
 read-gate-requires c κs =
     let l = c .before .before .before in
     let s = l .before .before .before in
-    (lent-long (s .args .table .now) (s .args .count) (l .loop .k) (omega arith) (omega arith), l .loop .inv .0 .low)
+    (lent-long (s .args .table .now) (s .args .count) (l .loop .k) (omega arith) (omega arith), l .loop .inv .0 .low, s .pre .4)
 
 enum-known-depth : tie.Need-enum-known-depth Inv-loop μ-loop
 enum-known-depth c = search needs

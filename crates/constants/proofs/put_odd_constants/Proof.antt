@@ -4,6 +4,8 @@ use mathlib.Core.Path.{sym, ap, _∙_}
 use native.Mathlib.Omega.{arith}
 use borrow.Author.Needs.{needs}
 use lib.ListN.{length}
+use Rattle.field.specs.Modular.{residue}
+use Rattle.circuit.specs.Constant.{bitsOf}
 use Rattle.constants.proofs.Constants.{Descending, descend-begin, length-powers, length-first, descend-one, descended}
 use Rattle.constants.proofs.put_odd_constants.Statement.{statement}
 use Rattle.constants.proofs.put_odd_constants.Tie as tie
@@ -23,15 +25,23 @@ loop-holds c = let s = c .before .before .before .before in descend-begin _ _ _ 
 sub-m : tie.Need-sub-m Inv-loop μ-loop
 sub-m c = search needs
 
-sum-mod-requires : tie.Need-sum-mod-requires Inv-loop μ-loop
-sum-mod-requires c κs = let l = c .before .before .loop in omega (arith, length-powers _ _ _ _ _ (l .inv))
+sum-of-requires : tie.Need-sum-of-requires Inv-loop μ-loop
+sum-of-requires c κs = let l = c .before .before .loop in omega (arith, length-powers _ _ _ _ _ (l .inv))
+
+bits-of-requires : tie.Need-bits-of-requires Inv-loop μ-loop
+bits-of-requires c κs =
+    let s = c .before .before .before .before .before .before .before .before in
+    (c .sum-of .ensures .1, omega (arith, s .pre .1))
+
+mul-constants : tie.Need-mul-constants Inv-loop μ-loop
+mul-constants c = let l = c .before .before .before .before .loop in omega (arith, l .inv .within, l .inv .long)
 
 slice-write-constants : tie.Need-slice-write-constants Inv-loop μ-loop
-slice-write-constants c = let l = c .before .before .before .loop in omega (arith, l .inv .within, l .inv .long)
+slice-write-constants c = let l = c .before .before .before .before .loop in omega (arith, l .inv .within, l .inv .long)
 
 multiply-each-requires : tie.Need-multiply-each-requires Inv-loop μ-loop
 multiply-each-requires c κs =
-    let l = c .before .before .before .before in
+    let l = c .before .before .before .before .before in
     let r = l .before in
     let s = r .before .before .before .before in (
       length-powers _ _ _ _ _ (l .loop .inv) ∙ sym (ap length (s .pre .3) ∙ length-first _ _),
@@ -44,11 +54,12 @@ loop-less c = search needs
 
 loop-again : tie.Need-loop-again Inv-loop μ-loop
 loop-again c =
-    let i = c .before .before .before .before .before .before in
+    let written = c .before .before .before .before in
+    let i = written .before .before .before in
     let l = i .before in
     let s = l .before .before .before .before .before in
     descend-one _ _ _ _ (l .loop .m) _ (s .args .squares .now) _ (s .pre .1) (s .pre .4) (s .pre .3) (i .loop-test .taken) (l .loop .inv)
-    (c .before .before .before .before .sum-mod .ensures) (c .before .before .multiply-each .ensures)
+    (written .bits-of .ensures ∙ ap (λ x. bitsOf (s .args .p) (residue (s .args .p) x)) (written .before .sum-of .ensures .0)) (c .before .before .multiply-each .ensures)
 
 same-length : tie.Need-same-length Inv-loop μ-loop
 same-length c =
@@ -70,7 +81,9 @@ put-odd-constants-spec =
     reciprocal-of-requires
     loop-holds
     sub-m
-    sum-mod-requires
+    sum-of-requires
+    bits-of-requires
+    mul-constants
     slice-write-constants
     multiply-each-requires
     loop-less

@@ -25,9 +25,6 @@ sum-gate-requires c κs = search needs
 sum-gate-requires-2 : tie.Need-sum-gate-requires-2
 sum-gate-requires-2 c κs = search needs
 
-wide-requires-3 : tie.Need-wide-requires-3
-wide-requires-3 c κs = search needs
-
 scale-gate-requires : tie.Need-scale-gate-requires
 scale-gate-requires c κs = search needs
 
@@ -59,8 +56,8 @@ returns-4 c =
 
 returns-5 : tie.Need-returns-5
 returns-5 c =
-    let s = c .before .before .before .before in
-    rw (c .before .before .match .keys5) (rw (c .before .wide3 .ensures .0) at (c .scale-gate .ensures) ∙ scale-adds (headIs (s .args .head)) (s .args .earlier .now) (s .args .a) (s .args .b))
+    let s = c .before .before .before in
+    rw (c .before .match .keys5) (c .scale-gate .ensures ∙ scale-adds (headIs (s .args .head)) (s .args .earlier .now) (s .args .a) (s .args .b) (s .pre .1))
 
 returns-6 : tie.Need-returns-6
 returns-6 c =
@@ -87,7 +84,6 @@ add-gate-spec =
     slot-gate-requires-2
     sum-gate-requires
     sum-gate-requires-2
-    wide-requires-3
     scale-gate-requires
     flip-gate-requires
     mul-gate-requires

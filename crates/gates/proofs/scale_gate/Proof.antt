@@ -1,16 +1,20 @@
 -- `gates::scale_gate` meets its contract: at each return the tests on the way decide rule 17.
 -- Assumes nothing.
+use mathlib.Core.Path.{sym, _∙_}
 use mathlib.Core.Bool.{and-false}
 use borrow.Author.Needs.{needs}
-use borrow.Author.Tests.{lt-ltb, le-ltb}
+use borrow.Author.Tests.{not-true, not-false, lt-ltb, le-ltb}
 use Rattle.gates.proofs.scale_gate.Statement.{statement}
 use Rattle.gates.proofs.scale_gate.Tie as tie
 
 returns : tie.Need-returns
 returns c = search (le-ltb)
 
+is-constant-requires : tie.Need-is-constant-requires
+is-constant-requires c κs = search needs
+
 returns-2 : tie.Need-returns-2
-returns-2 c = rw (le-ltb _ _ (c .if2 .taken), and-false)
+returns-2 c = rw (sym (c .before .is-constant .ensures) ∙ not-true _ (c .if2 .taken), and-false)
 
 mul-linear-at : tie.Need-mul-linear-at
 mul-linear-at c = search needs
@@ -23,13 +27,16 @@ linear-at-requires c κs = search needs
 
 returns-3 : tie.Need-returns-3
 returns-3 c =
-    let e = c .before .before in rw (lt-ltb _ _ (e .before .if1 .left), lt-ltb _ _ (e .if2 .left)) (c .linear-at .ensures)
+    let t = c .before .before in
+    let e = t .before in
+    rw (lt-ltb _ _ (e .before .if1 .left), sym (e .is-constant .ensures) ∙ not-false _ (t .if2 .left)) (c .linear-at .ensures)
 
 pub scale-gate-spec : {M : Type 1} → statement M
 scale-gate-spec =
     tie.close
     (tie.spec
     returns
+    is-constant-requires
     returns-2
     mul-linear-at
     shared-slice-read-linear-at

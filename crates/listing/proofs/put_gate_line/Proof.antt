@@ -8,7 +8,7 @@ use Rattle.circuit.specs.Bytes.{byte, u16At}
 use Rattle.text.specs.Text.{labelled, decimal, space}
 use Rattle.listing.specs.Lines.{ended}
 use Rattle.text.specs.Putting.{Puts, Fits}
-use Rattle.listing.specs.Records.{nameOf}
+use Rattle.listing.specs.Records.{nameOf, operandOf}
 use Rattle.text.proofs.Putting.{same-text, then, left, begins}
 use Rattle.listing.proofs.put_gate_line.Statement.{statement}
 use Rattle.listing.proofs.put_gate_line.Tie as tie
@@ -37,7 +37,7 @@ module _ (s : tie.Start) where
   first = kind ++ labelled (space ∷ []) (u16At (s .args .bytes .now) 4)
 
   abbrev second : List ℕ
-  second = first ++ labelled (space ∷ []) (u16At (s .args .bytes .now) 6)
+  second = first ++ operandOf (byte (s .args .bytes .now) 2) (u16At (s .args .bytes .now) 6)
 
   room-second : Room second
   room-second = shorter second _ (s .pre .1)
@@ -67,7 +67,7 @@ read-kind c = read-spaced (c .before .before .before .before .before)
 abbrev read-first : tie.After-put-labelled → tie.After-u16-at2
 read-first c = read-kind (c .before .before .before .before .before)
 
-abbrev read-second : tie.After-put-labelled2 → tie.After-u16-at2
+abbrev read-second : tie.After-put-operand → tie.After-u16-at2
 read-second c = read-first (c .before .before .before .before .before)
 
 -- where the function began
@@ -89,10 +89,11 @@ put-first c =
     let same = ap (labelled (space ∷ [])) (read-first c .before .u16-at .ensures .0) in
     then (put-kind (c .before .before .before .before .before)) (same-text same (c .put-labelled .ensures))
 
-put-second : (c : tie.After-put-labelled2) → (let s = start (read-second c) in Done s (second s) (c .put-labelled2 .last .0) (c .put-labelled2 .result))
-put-second c =
-    let same = ap (labelled (space ∷ [])) (read-second c .u16-at2 .ensures .0) in
-    then (put-first (c .before .before .before .before .before)) (same-text same (c .put-labelled2 .ensures))
+put-operand : (c : tie.After-put-operand) → (let s = start (read-second c) in Done s (second s) (c .put-operand .last .0) (c .put-operand .result))
+put-operand c =
+    let r = read-second c in
+    let same = ap (operandOf (byte (start r .args .bytes .now) 2)) (r .u16-at2 .ensures .0) in
+    then (put-first (c .before .before .before .before .before)) (same-text same (c .put-operand .ensures))
 
 u16-at-requires : tie.Need-u16-at-requires
 u16-at-requires c κs = search needs
@@ -129,25 +130,25 @@ put-labelled-requires c κs =
     let p = c .before .before .before .before in
     let r = read-kind p in rw (r .before .u16-at .ensures .0) (left (put-kind p) _ (room-first (start r)))
 
-slice-aggregate-put-labelled-2 : tie.Need-slice-aggregate-put-labelled-2
-slice-aggregate-put-labelled-2 c = search needs
+shared-slice-read-put-operand : tie.Need-shared-slice-read-put-operand
+shared-slice-read-put-operand c = search needs
 
-put-labelled-requires-2 : tie.Need-put-labelled-requires-2
-put-labelled-requires-2 c κs =
+put-operand-requires : tie.Need-put-operand-requires
+put-operand-requires c κs =
     let p = c .before .before .before .before in
-    let r = read-first p in rw (r .u16-at2 .ensures .0) (left (put-first p) _ (room-second (start r)))
+    let r = read-first p in (r .u16-at2 .ensures .1, rw (r .u16-at2 .ensures .0) (left (put-first p) _ (room-second (start r))))
 
 slice-aggregate-put-text-2 : tie.Need-slice-aggregate-put-text-2
 slice-aggregate-put-text-2 c = search needs
 
 put-text-requires-2 : tie.Need-put-text-requires-2
-put-text-requires-2 c κs = let p = c .before .before .before .before in left (put-second p) ended (start (read-second p) .pre .1)
+put-text-requires-2 c κs = let p = c .before .before .before .before in left (put-operand p) ended (start (read-second p) .pre .1)
 
 same-length : tie.Need-same-length
 same-length c = search needs
 
 returns : tie.Need-returns
-returns c = let t = c .before .before in then (put-second (t .before .before .before .before .before)) (t .put-text2 .ensures)
+returns c = let t = c .before .before in then (put-operand (t .before .before .before .before .before)) (t .put-text2 .ensures)
 
 pub put-gate-line-spec : {M : Type 1} → statement M
 put-gate-line-spec =
@@ -164,8 +165,8 @@ put-gate-line-spec =
     put-kind-requires
     slice-aggregate-put-labelled
     put-labelled-requires
-    slice-aggregate-put-labelled-2
-    put-labelled-requires-2
+    shared-slice-read-put-operand
+    put-operand-requires
     slice-aggregate-put-text-2
     put-text-requires-2
     same-length

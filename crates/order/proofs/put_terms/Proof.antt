@@ -1,14 +1,15 @@
 -- `order::put_terms` meets its contract. The invariant: the terms that are left to write give all of them, and the sum so far is as deep as
--- the power before. The measure is how far i is from p.
+-- the power before. The next exponent is 2 m + 1. The measure is how far m is from the last term.
 -- Assumes nothing.
-use mathlib.Core.Path.{_≡_, refl, sym, ap₂, _∙_}
+use mathlib.Core.Path.{_≡_, refl, sym, ap, ap₂, _∙_}
 use mathlib.Core.Logic.{inl, inr}
 use mathlib.Core.List.{List, [], _∷_}
-use Prim.Native.Nat.{ℕ, _+_, _-_, _%_, _≤_}
+use Prim.Native.Nat.{ℕ, _+_, _-_, _*_, _≤_, _<_}
 use native.Mathlib.Omega.{arith}
 use borrow.Author.Needs.{needs}
 use lib.ListN.{length}
 use Rattle.field.specs.Logarithm.{clog}
+use Rattle.circuit.specs.Constant.{Constant}
 use Rattle.circuit.specs.Gate.{Gate, Scale, Add}
 use Rattle.comparison.specs.OrderDigit.{powerGate}
 use Rattle.comparison.proofs.Powers.{gate-low}
@@ -21,31 +22,27 @@ use Rattle.order.proofs.Terms.{termsFrom, constants-long, constant-odd,
 use Rattle.order.proofs.put_terms.Statement.{statement}
 use Rattle.order.proofs.put_terms.Tie as tie
 
--- odd numbers from 3 on in steps of two end at p
-ends : (p i : ℕ) → p % 2 ≡ 1 → i % 2 ≡ 1 → p - 1 ≤ i → i ≤ p → i ≡ p
-ends p i a b l h = omega arith
-
 -- a term and the sum with it, over the sum so far
-abbrev addedTerm : Written → ℕ → ℕ → List Gate
+abbrev addedTerm : Written → ℕ → Constant → List Gate
 addedTerm sum power constant = Scale power constant ∷ Add (sum .node .gate) (sum .pen .next) ∷ []
 
 abbrev Inv-loop : tie.InvT-loop
-Inv-loop table₀ z p constants depths sum₀ i₀ table sum i =
-    ((i % 2 ≡ 1) × (3 ≤ i) × (i ≤ p) × (sum .pen .next + 3 ≡ sum₀ .pen .next + i) × (sum .pen .products ≤ sum .pen .next)
+Inv-loop table₀ z p constants depths sum₀ half m₀ table sum m =
+    ((1 ≤ m) × (m ≤ half) × (sum .pen .next + 2 ≡ sum₀ .pen .next + 2 * m) × (sum .pen .products ≤ sum .pen .next)
     × (sum .pen .squares ≤ sum .pen .next) × (length table ≡ length table₀) × (sum .node .gate + 1 ≡ sum .pen .next))
-    × (sum .node .depth ≡ clog (i - 2))
+    × (sum .node .depth ≡ clog (2 * m - 1))
     × Remains table₀ (sum₀ .pen) (termsFrom p z (sum₀ .pen .next) (sum₀ .node .gate) 3) table (sum .pen)
-    (termsFrom p z (sum .pen .next) (sum .node .gate) i)
+    (termsFrom p z (sum .pen .next) (sum .node .gate) (2 * m + 1))
 
 abbrev μ-loop : tie.MeasureT-loop
-μ-loop table₀ z p constants depths sum₀ i₀ table sum i = p - i
+μ-loop table₀ z p constants depths sum₀ half m₀ table sum m = half - m
 
 -- ---- the stages: the start, the first term, a turn of the loop, its power; after the loop the last power
 
-abbrev startOf : tie.After-put-term Inv-loop μ-loop → tie.Start Inv-loop μ-loop
+abbrev startOf : tie.After-put-scale Inv-loop μ-loop → tie.Start Inv-loop μ-loop
 startOf first = first .before .before .before .before .before .before
 
-abbrev firstOf : tie.At-loop Inv-loop μ-loop → tie.After-put-term Inv-loop μ-loop
+abbrev firstOf : tie.At-loop Inv-loop μ-loop → tie.After-put-scale Inv-loop μ-loop
 firstOf turn = turn .before .before .before .before
 
 abbrev start : tie.At-loop Inv-loop μ-loop → tie.Start Inv-loop μ-loop
@@ -59,15 +56,18 @@ poweredTop read = read .before .before
 
 -- ---- the needs
 
-shared-slice-read-put-term : tie.Need-shared-slice-read-put-term Inv-loop μ-loop
-shared-slice-read-put-term c =
+shared-slice-read-put-scale : tie.Need-shared-slice-read-put-scale Inv-loop μ-loop
+shared-slice-read-put-scale c =
     let s = c .before .before .before .before .before in omega (arith, constants-long (s .args .p) _ (s .pre .1 .scaled))
 
-put-term-requires : tie.Need-put-term-requires Inv-loop μ-loop
-put-term-requires c κs = search needs
+put-scale-requires : tie.Need-put-scale-requires Inv-loop μ-loop
+put-scale-requires c κs = search needs
 
-shared-slice-read-power-at : tie.Need-shared-slice-read-power-at Inv-loop μ-loop
-shared-slice-read-power-at c = search needs
+shared-slice-read-half : tie.Need-shared-slice-read-half Inv-loop μ-loop
+shared-slice-read-half c = search needs
+
+sub-half : tie.Need-sub-half Inv-loop μ-loop
+sub-half c = search needs
 
 loop-holds : tie.Need-loop-holds Inv-loop μ-loop
 loop-holds c =
@@ -77,31 +77,38 @@ loop-holds c =
     let flat = rw one at (s .pre .1 .deep .known 1 (omega arith, omega arith, inl (omega arith)) (omega (arith, one))) in
     (omega arith, flat, remains-all)
 
-sub-loop : tie.Need-sub-loop Inv-loop μ-loop
-sub-loop c = search needs
+-- a term is left
+few : (c : tie.In-loop Inv-loop μ-loop) → (let m = c .before .loop .m in (1 ≤ m) × (2 * m + 1 < start (c .before) .args .p - 1))
+few c = let turn = c .before in (turn .loop .inv .0 .0, omega (arith, c .loop-test .taken, start turn .pre .0))
+
+mul-power-at : tie.Need-mul-power-at Inv-loop μ-loop
+mul-power-at c = omega (arith, few c)
+
+add-power-at : tie.Need-add-power-at Inv-loop μ-loop
+add-power-at c = omega (arith, few c)
 
 power-at-requires : tie.Need-power-at-requires Inv-loop μ-loop
 power-at-requires c κs =
     let turn = c .before in
     let s = start turn in
-    omega (arith, s, place-within (s .args .p) (turn .loop .i) (omega (arith, s)))
+    omega (arith, few c, s, place-within (s .args .p) (2 * turn .loop .m + 1) (omega (arith, few c, s)))
 
 cast-add-term : tie.Need-cast-add-term Inv-loop μ-loop
 cast-add-term c = search needs
 
+mul-add-term : tie.Need-mul-add-term Inv-loop μ-loop
+mul-add-term c = search needs
+
 shared-slice-read-add-term : tie.Need-shared-slice-read-add-term Inv-loop μ-loop
 shared-slice-read-add-term c =
     let s = start (powered c .before .before) in
-    omega (arith, constants-long (s .args .p) _ (s .pre .1 .scaled))
+    omega (arith, few (powered c .before), constants-long (s .args .p) _ (s .pre .1 .scaled))
 
 add-term-requires : tie.Need-add-term-requires Inv-loop μ-loop
 add-term-requires c κs = search needs
 
-add-i : tie.Need-add-i Inv-loop μ-loop
-add-i c =
-    let added = c .before .before in
-    let turn = powered (added .before) .before .before in
-    omega (arith, turn .loop .inv .0 .2, start turn .pre .0)
+add-m : tie.Need-add-m Inv-loop μ-loop
+add-m c = omega (arith, few (powered (c .before .before .before) .before))
 
 loop-less : tie.Need-loop-less Inv-loop μ-loop
 loop-less c = search needs
@@ -114,18 +121,21 @@ loop-again c =
     let s = start turn in
     let p = s .args .p in
     let z = s .args .z in
-    let i = turn .loop .i in
+    let m = turn .loop .m in
+    let i = 2 * m + 1 in
     let sum = turn .loop .sum in
     let inv = turn .loop .inv in
+    let left = few (power .before) in
     let w = added .add-term .ensures in
     let place = place-within p i (omega arith) in
     let known = s .pre .1 .deep .known i (omega arith, omega arith, inr (inl (omega arith))) (omega arith) in
-    let deep = deeper-power (i - 2) i _ _ (omega arith) (inv .1) (power .power-at .ensures .1 ∙ known) in
-    let back : i + 2 - 2 ≡ i = omega arith in
+    let deep = deeper-power (2 * m - 1) i _ _ (omega arith) (inv .1) (power .power-at .ensures .1 ∙ known) in
+    let back : 2 * (m + 1) - 1 ≡ i = omega arith in
+    let next : i + 2 ≡ 2 * (m + 1) + 1 = omega arith in
     let split = later-cons p z (sum .pen .next) (sum .node .gate) i (omega arith) in
-    let constant = constant-odd p i (s .args .constants .now) (s .pre .1 .scaled) (omega arith) (omega arith) in
+    let constant = constant-odd p (s .pre .0 .1) (s .args .constants .now) (s .pre .1 .scaled) m (omega arith) in
     let term = ap₂ (addedTerm sum) (power .power-at .ensures .0) constant in
-    let onward = ap₂ (λ (k sum : ℕ). termsFrom p z k sum (i + 2)) (sym (w .1 .0 .0)) (sym (w .1 .1 .0)) in (
+    let onward = ap₂ (λ (k sum : ℕ). termsFrom p z k sum (i + 2)) (sym (w .1 .0 .0)) (sym (w .1 .1 .0)) ∙ ap (termsFrom p z _ _) next in (
       omega arith,
       rw back (w .1 .1 .1 ∙ deep),
       remains-as onward (remains-then (remains-as split (inv .2)) (same-gates term (w .0))),
@@ -139,11 +149,11 @@ power-at-requires-2 c κs =
     let s = start (c .before) in
     omega (arith, s, place-within (s .args .p) (s .args .p - 1) (omega arith))
 
-sub-add-term : tie.Need-sub-add-term Inv-loop μ-loop
-sub-add-term c = search needs
-
 cast-add-term-2 : tie.Need-cast-add-term-2 Inv-loop μ-loop
 cast-add-term-2 c = search needs
+
+mul-add-term-2 : tie.Need-mul-add-term-2 Inv-loop μ-loop
+mul-add-term-2 c = search needs
 
 shared-slice-read-add-term-2 : tie.Need-shared-slice-read-add-term-2 Inv-loop μ-loop
 shared-slice-read-add-term-2 c =
@@ -168,18 +178,18 @@ returns c =
     let s = startOf first in
     let p = s .args .p in
     let z = s .args .z in
-    let i = turn .loop .i in
+    let m = turn .loop .m in
     let sum = turn .loop .sum in
     let inv = turn .loop .inv in
     let w = added .add-term2 .ensures in
-    let end = ends p i (s .pre .0 .1 .1) (inv .0 .0) (omega arith) (inv .0 .2) in
+    let end : 2 * m + 1 ≡ p = omega (arith, s .pre .0 .1, inv .0) in
     let place = place-within p (p - 1) (omega arith) in
     let known = s .pre .1 .deep .known (p - 1) (omega arith, omega arith, inr (inr refl)) (omega arith) in
-    let deep = deeper-power (i - 2) (p - 1) _ _ (omega arith) (inv .1) (power .power-at2 .ensures .1 ∙ known) in
-    let last = later-top p z (sum .pen .next) (sum .node .gate) i (omega arith) in
-    let constant = constant-top p (s .args .constants .now) (s .pre .1 .scaled) in
-    let lowest = constant-odd p 1 (s .args .constants .now) (s .pre .1 .scaled) refl (omega arith) in
-    let one = first .put-term .ensures in
+    let deep = deeper-power (2 * m - 1) (p - 1) _ _ (omega arith) (inv .1) (power .power-at2 .ensures .1 ∙ known) in
+    let last = later-top p z (sum .pen .next) (sum .node .gate) (2 * m + 1) (omega arith) in
+    let constant = constant-top p (s .pre .0 .1) (s .args .constants .now) (s .pre .1 .scaled) in
+    let lowest = constant-odd p (s .pre .0 .1) (s .args .constants .now) (s .pre .1 .scaled) 0 (omega arith) in
+    let one = first .put-scale .ensures in
     let term = ap₂ (addedTerm sum) (power .power-at2 .ensures .0) constant in
     let rest = inv .2 .gives _ _ (same-gates (term ∙ sym last) (w .0)) in (
       rw (terms-first p z (s .args .pen .next) (omega arith), ← lowest, ← one .1 .0) (then (one .0) rest),
@@ -192,22 +202,25 @@ put-terms-spec =
     (tie.spec
     Inv-loop
     μ-loop
-    shared-slice-read-put-term
-    put-term-requires
-    shared-slice-read-power-at
+    shared-slice-read-put-scale
+    put-scale-requires
+    shared-slice-read-half
+    sub-half
     loop-holds
-    sub-loop
+    mul-power-at
+    add-power-at
     power-at-requires
     cast-add-term
+    mul-add-term
     shared-slice-read-add-term
     add-term-requires
-    add-i
+    add-m
     loop-less
     loop-again
     sub-power-at
     power-at-requires-2
-    sub-add-term
     cast-add-term-2
+    mul-add-term-2
     shared-slice-read-add-term-2
     add-term-requires-2
     same-length

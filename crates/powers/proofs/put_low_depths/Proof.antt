@@ -6,7 +6,8 @@ use Prim.Native.Nat.{_+_, _-_, _≤_}
 use native.Mathlib.Omega.{arith}
 use borrow.Author.Needs.{needs}
 use lib.ListN.{length}
-use Rattle.comparison.specs.OrderDigit.{half, powerGate}
+use Rattle.field.specs.Half.{half}
+use Rattle.comparison.specs.OrderDigit.{powerGate}
 use Rattle.comparison.proofs.Powers.{gate-low}
 use Rattle.powers.specs.Powers.{Deep}
 use Rattle.powers.proofs.put_low_depths.Statement.{statement}

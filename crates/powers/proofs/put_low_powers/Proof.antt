@@ -7,7 +7,8 @@ use Prim.Native.Nat.{_+_, _-_, _≤_}
 use native.Mathlib.Omega.{arith}
 use borrow.Author.Needs.{needs}
 use lib.ListN.{length}
-use Rattle.comparison.specs.OrderDigit.{half, ascending, lowExponents, powerOf}
+use Rattle.field.specs.Half.{half}
+use Rattle.comparison.specs.OrderDigit.{ascending, lowExponents, powerOf}
 use Rattle.writer.specs.Remains.{Remains}
 use Rattle.writer.proofs.Remains.{remains-all, remains-as, remains-then}
 use Rattle.writer.proofs.Writing.{none}

@@ -6,7 +6,8 @@ use Prim.Native.Nat.{_+_, _-_, _/_, _%_, _≤_, _<_}
 use native.Mathlib.Omega.{arith}
 use borrow.Author.Needs.{needs}
 use lib.ListN.{length}
-use Rattle.comparison.specs.OrderDigit.{half, powerCount, powerGate}
+use Rattle.field.specs.Half.{half}
+use Rattle.comparison.specs.OrderDigit.{powerCount, powerGate}
 use Rattle.comparison.proofs.Powers.{gate-high}
 use Rattle.powers.specs.Powers.{Deep}
 use Rattle.powers.proofs.put_odd_depths.Statement.{statement}

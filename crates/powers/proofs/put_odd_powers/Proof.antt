@@ -7,8 +7,9 @@ use Prim.Native.Nat.{_+_, _-_, _/_, _%_, _≤_, _<_}
 use native.Mathlib.Omega.{arith}
 use borrow.Author.Needs.{needs}
 use lib.ListN.{length}
+use Rattle.field.specs.Half.{half}
 use Rattle.field.specs.Polynomials.{everySecond}
-use Rattle.comparison.specs.OrderDigit.{half, oddExponents, powerOf}
+use Rattle.comparison.specs.OrderDigit.{oddExponents, powerOf}
 use Rattle.writer.specs.Remains.{Remains}
 use Rattle.writer.proofs.Remains.{remains-all, remains-as, remains-then}
 use Rattle.writer.proofs.Writing.{none}

@@ -1,14 +1,15 @@
 -- `runner::value_of` meets its contract: in the arm of a kind the gate of that kind was read, so it keeps the rules,
 -- which bound its operands, and its value is the one promised. No other kind has a gate.
 -- Assumes nothing.
-use mathlib.Core.Path.{_≡_, refl, _∙_}
+use mathlib.Core.Path.{_≡_, refl, ap, _∙_}
 use mathlib.Core.List.{List}
 use Prim.Native.Nat.{ℕ}
 use native.Mathlib.Omega.{arith}
 use borrow.Author.Needs.{needs}
-use borrow.Author.Tests.{ltb-true}
-use lib.ListN.{length}
+use lib.ListN.{length, getD}
 use Rattle.answer.specs.Outcome.{accepted}
+use Rattle.field.specs.Modular.{mulMod}
+use Rattle.circuit.specs.Constant.{signed}
 use Rattle.circuit.specs.Gate.{Gate, Left, Right, Add, Sub, Scale, Flip, Mul, gateOf}
 use Rattle.circuit.specs.Meaning.{Algebra, meaning, entryOf}
 use Rattle.circuit.specs.Reading.{readFields}
@@ -69,14 +70,10 @@ sub-mod-requires : tie.Need-sub-mod-requires
 sub-mod-requires c κs = search needs
 
 shared-slice-read-mul-mod : tie.Need-shared-slice-read-mul-mod
-shared-slice-read-mul-mod c = let m = c .before in fitted (m .before) 5 (Scale _ _) refl (m .match .keys5) .0
+shared-slice-read-mul-mod c = let m = c .before in fitted (m .before) 5 (Scale _ (signed _)) refl (m .match .keys5) .0
 
-cast-mul-mod : tie.Need-cast-mul-mod
-cast-mul-mod c =
-    let m = c .before in
-    let s = start (m .before) .args in
-    let below = ltb-true (s .b) (s .head .prime) (fitted (m .before) 5 (Scale _ _) refl (m .match .keys5) .1) in
-    omega arith
+constant-of-requires : tie.Need-constant-of-requires
+constant-of-requires c κs = let m = c .before in fitted (m .before) 5 (Scale _ (signed _)) refl (m .match .keys5) .1
 
 mul-mod-requires : tie.Need-mul-mod-requires
 mul-mod-requires c κs = search needs
@@ -109,7 +106,13 @@ returns-4 : tie.Need-returns-4
 returns-4 c = let m = c .before .before .before in c .sub-mod .ensures ∙ value (m .before) 4 (Sub _ _) refl (m .match .keys4)
 
 returns-5 : tie.Need-returns-5
-returns-5 c = let m = c .before .before in c .mul-mod .ensures ∙ value (m .before) 5 (Scale _ _) refl (m .match .keys5)
+returns-5 c =
+    let n = c .before in
+    let m = n .before .before in
+    let s = start (m .before) .args in
+    c .mul-mod .ensures
+    ∙ ap (mulMod (s .head .prime) (getD (s .earlier .now) (s .a) 0)) (n .constant-of .ensures)
+    ∙ value (m .before) 5 (Scale (s .a) (signed (s .b))) refl (m .match .keys5)
 
 returns-6 : tie.Need-returns-6
 returns-6 c = let m = c .before .before in c .sub-mod2 .ensures ∙ value (m .before) 6 (Flip _) refl (m .match .keys6)
@@ -133,7 +136,7 @@ value-of-spec =
     shared-slice-read-sub-mod-2
     sub-mod-requires
     shared-slice-read-mul-mod
-    cast-mul-mod
+    constant-of-requires
     mul-mod-requires
     shared-slice-read-sub-mod-3
     sub-mod-requires-2

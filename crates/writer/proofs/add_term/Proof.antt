@@ -6,8 +6,8 @@ use borrow.Author.Needs.{needs}
 use Rattle.writer.proofs.add_term.Statement.{statement}
 use Rattle.writer.proofs.add_term.Tie as tie
 
-put-term-requires : tie.Need-put-term-requires
-put-term-requires c κs = search needs
+put-scale-requires : tie.Need-put-scale-requires
+put-scale-requires c κs = search needs
 
 put-add-requires : tie.Need-put-add-requires
 put-add-requires c κs = search needs
@@ -22,8 +22,8 @@ returns : tie.Need-returns
 returns c =
     let added = c .before .before .before in
     let term = added .before .before .before .before in
-    (then (term .put-term .ensures .0) (added .put-add .ensures .0), (omega (arith, added, term), omega (arith, added, term)))
+    (then (term .put-scale .ensures .0) (added .put-add .ensures .0), (omega (arith, added, term), omega (arith, added, term)))
 
 pub add-term-spec : {M : Type 1} → statement M
 add-term-spec =
-    tie.close (tie.spec put-term-requires put-add-requires deeper-requires same-length returns)
+    tie.close (tie.spec put-scale-requires put-add-requires deeper-requires same-length returns)
