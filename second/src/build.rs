@@ -1,5 +1,4 @@
-//! Build: "Writing one condition", "Whole card" and "Scored queries", all with
-//! "Constants near zero".
+//! Build: "Writing one condition", "Whole card" and "Scored queries".
 
 use crate::card::{Card, Condition, Form, Relation};
 use crate::field::{near_zero, order_constants};
@@ -24,6 +23,7 @@ struct Order {
 
 /// Writes gates into the lent table and counts them.
 struct Writer<'a> {
+    p: u8,
     table: &'a mut [u8],
     gates: u16,
     products: u16,
@@ -35,7 +35,7 @@ pub fn build(card: &[u8], table: &mut [u8]) -> Result<Report, Refusal> {
     let card = Card::read(card)?;
     let room = table_bytes(card_report(&card).gates);
     let table = table.get_mut(..room).ok_or(refusal::TABLE_ROOM)?;
-    let mut writer = Writer::new(table);
+    let mut writer = Writer::new(card.p, table);
     let output = write_card(&mut writer, &card);
     writer.write_head(&card);
     Ok(Report {
@@ -48,8 +48,9 @@ pub fn build(card: &[u8], table: &mut [u8]) -> Result<Report, Refusal> {
 }
 
 impl<'a> Writer<'a> {
-    fn new(table: &'a mut [u8]) -> Writer<'a> {
+    fn new(p: u8, table: &'a mut [u8]) -> Writer<'a> {
         Writer {
+            p,
             table,
             gates: 0,
             products: 0,
@@ -68,10 +69,7 @@ impl<'a> Writer<'a> {
     }
 
     fn write(&mut self, kind: Kind, a: u16, b: u16, depth: u16) -> Wire {
-        self.write_gate(Gate { kind, a, b }, depth)
-    }
-
-    fn write_gate(&mut self, gate: Gate, depth: u16) -> Wire {
+        let gate = Gate { kind, a, b };
         let number = self.gates;
         let start = table_bytes(number);
         self.table[start..start + RECORD_BYTES].copy_from_slice(&gate.record());
@@ -100,8 +98,10 @@ impl<'a> Writer<'a> {
         self.write(Kind::Sub, a.gate, b.gate, a.depth.max(b.depth))
     }
 
-    fn scale(&mut self, a: Wire, constant: i16) -> Wire {
-        self.write_gate(Gate::scale(a.gate, constant), a.depth)
+    /// The constant, below p here, is written as the number near zero.
+    fn scale(&mut self, a: Wire, constant: u8) -> Wire {
+        let b = near_zero(self.p, constant).cast_unsigned();
+        self.write(Kind::Scale, a.gate, b, a.depth)
     }
 
     fn flip(&mut self, a: Wire) -> Wire {
@@ -132,20 +132,18 @@ fn write_card(writer: &mut Writer, card: &Card) -> Wire {
 /// ADD(sum, it)."
 fn write_score(writer: &mut Writer, card: &Card, outputs: &[Wire]) -> Wire {
     let weights = card.conditions.iter().map(|condition| condition.weight);
-    let constants = weights.map(|weight| near_zero(card.p, weight));
-    write_sum(writer, outputs.iter().copied().zip(constants))
+    write_sum(writer, outputs.iter().copied().zip(weights))
 }
 
 /// The conditions in order, each in the next slots of both sides; their
 /// outputs.
 fn write_conditions(writer: &mut Writer, card: &Card) -> Vec<Wire> {
     // The constants of the prime serve all order conditions of the card.
-    let numbers = if card.conditions.iter().any(|c| c.relation.is_order()) {
+    let constants = if card.conditions.iter().any(|c| c.relation.is_order()) {
         order_constants(card.p)
     } else {
         Vec::new()
     };
-    let constants: Vec<i16> = numbers.iter().map(|&c| near_zero(card.p, c)).collect();
     let mut slot = 0;
     let mut outputs = Vec::with_capacity(card.conditions.len());
     for condition in &card.conditions {
@@ -159,7 +157,7 @@ fn write_conditions(writer: &mut Writer, card: &Card) -> Vec<Wire> {
 fn write_condition(
     writer: &mut Writer,
     p: u8,
-    constants: &[i16],
+    constants: &[u8],
     condition: &Condition,
     first_slot: usize,
 ) -> Wire {
@@ -242,7 +240,7 @@ fn write_powers(writer: &mut Writer, p: u8, z: Wire, powers: &mut Vec<Wire>) {
 /// "Then for i = 1, 3, .. p-2, p-1 a SCALE of z^i by c_i, each after the first
 /// followed by ADD(sum, it). The sum is L. Every digit but the lowest then
 /// FLIPs z^(p-1): E."
-fn order_digit(writer: &mut Writer, constants: &[i16], powers: &[Wire], is_lowest: bool) -> Order {
+fn order_digit(writer: &mut Writer, constants: &[u8], powers: &[Wire], is_lowest: bool) -> Order {
     let last = powers.len() - 1;
     let terms = (1..last).step_by(2).chain([last]).map(|i| powers[i]);
     let less = write_sum(writer, terms.zip(constants.iter().copied()));
@@ -256,7 +254,7 @@ fn order_digit(writer: &mut Writer, constants: &[i16], powers: &[Wire], is_lowes
 
 /// A SCALE of each gate by its constant, "each after the first followed by
 /// ADD(sum, it)".
-fn write_sum(writer: &mut Writer, terms: impl IntoIterator<Item = (Wire, i16)>) -> Wire {
+fn write_sum(writer: &mut Writer, terms: impl IntoIterator<Item = (Wire, u8)>) -> Wire {
     let mut sum: Option<Wire> = None;
     for (wire, constant) in terms {
         let term = writer.scale(wire, constant);

@@ -1,5 +1,4 @@
-//! "Field and digits": the primes, the half range, sums modulo a prime, and the
-//! constants of SCALEs.
+//! "Field and digits": the primes, the half range and sums modulo a prime.
 
 /// The 53 odd primes from 3 to 251.
 pub const PRIMES: [u8; 53] = [
@@ -46,33 +45,35 @@ pub fn mul(p: u8, a: u8, b: u8) -> u8 {
     reduce(p, u16::from(a) * u16::from(b))
 }
 
+/// a times a signed constant modulo p.
+pub fn scale(p: u8, a: u8, constant: i16) -> u8 {
+    let product = i32::from(a) * i32::from(constant);
+    product.rem_euclid(i32::from(p)) as u8
+}
+
 fn reduce(p: u8, x: u16) -> u8 {
     (x % u16::from(p)) as u8
 }
 
-/// "A signed 16-bit number from -(p-1)/2 to (p-1)/2": what a SCALE may multiply
-/// by.
-pub fn is_constant(p: u8, constant: i16) -> bool {
-    constant.unsigned_abs() <= u16::from(p / 2)
+/// "A signed 16-bit number from -(p-1)/2 to (p-1)/2."
+pub fn is_near_zero(p: u8, constant: i16) -> bool {
+    let most = i16::from(p / 2);
+    (-most..=most).contains(&constant)
 }
 
-/// The constant that is equal to x modulo p, for x below p.
-pub fn near_zero(p: u8, x: u8) -> i16 {
-    let (p, x) = (i16::from(p), i16::from(x));
-    if x <= p / 2 {
-        x
+/// The signed number of that range that is "equal to the old constant modulo
+/// p", for a constant below p.
+pub fn near_zero(p: u8, constant: u8) -> i16 {
+    let constant = i16::from(constant);
+    if is_near_zero(p, constant) {
+        constant
     } else {
-        x - p
+        constant - i16::from(p)
     }
 }
 
-/// The number below p that is equal to a constant modulo p.
-pub fn residue(p: u8, constant: i16) -> u8 {
-    constant.rem_euclid(i16::from(p)) as u8
-}
-
-/// The numbers c_i of an order digit, each below p, in the order in which they
-/// are used: i = 1, 3, .. p-2, then p-1. A SCALE has them near zero.
+/// The constants c_i of an order digit, in the order in which they are used:
+/// i = 1, 3, .. p-2, then p-1.
 ///
 /// "For odd i, c_i is the sum of b^(p-1-i), b from 1 to (p-1)/2, modulo p;
 /// c_(p-1) = (p+1)/2."

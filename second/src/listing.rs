@@ -32,16 +32,19 @@ fn card_listing(card: &[u8]) -> Result<String, Refusal> {
     let report = build(card, &mut bytes)?;
     let mut text = format!("{report}\n");
     for (number, gate) in Table::read(&bytes)?.gates().enumerate() {
-        let (name, a, b) = (gate.kind.name(), gate.a, listed_b(&gate));
-        writeln!(text, "{number} {name} {a} {b}").expect("a string takes all text");
+        let name = gate.kind.name();
+        let b = printed_b(&gate);
+        writeln!(text, "{number} {name} {} {b}", gate.a).expect("a string takes all text");
     }
     Ok(text)
 }
 
-/// A SCALE's b is its constant, with its sign.
-fn listed_b(gate: &Gate) -> i32 {
+/// A SCALE's b is signed, as in `5 SCALE 3 -1`.
+fn printed_b(gate: &Gate) -> i32 {
     match gate.kind {
         Kind::Scale => i32::from(gate.constant()),
-        _ => i32::from(gate.b),
+        Kind::Left | Kind::Right | Kind::Add | Kind::Sub | Kind::Flip | Kind::Mul => {
+            i32::from(gate.b)
+        }
     }
 }

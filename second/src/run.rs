@@ -39,7 +39,7 @@ fn gate_value(p: u8, gate: &Gate, left: &[u8], right: &[u8], lower: &[u8]) -> u8
         Kind::Right => right[a],
         Kind::Add => field::add(p, lower[a], lower[b]),
         Kind::Sub => field::sub(p, lower[a], lower[b]),
-        Kind::Scale => field::mul(p, lower[a], field::residue(p, gate.constant())),
+        Kind::Scale => field::scale(p, lower[a], gate.constant()),
         Kind::Flip => field::sub(p, 1, lower[a]),
         Kind::Mul => field::mul(p, lower[a], lower[b]),
     }

@@ -1,7 +1,7 @@
 //! "Gate table": the records, Check and Trim.
 
 use crate::card::is_weight;
-use crate::field::{is_constant, is_listed, MOST_DIGITS};
+use crate::field::{is_listed, is_near_zero, MOST_DIGITS};
 use crate::refusal::{self, demand, Refusal};
 use crate::report::{cost, Depth, Report};
 
@@ -140,28 +140,20 @@ impl Gate {
         })
     }
 
-    /// A SCALE, whose b is the constant in "two's complement".
-    pub fn scale(a: u16, constant: i16) -> Gate {
-        Gate {
-            kind: Kind::Scale,
-            a,
-            b: constant.cast_unsigned(),
-        }
-    }
-
-    /// The constant of a SCALE.
+    /// The constant of a SCALE: b is "a signed 16-bit number .., two's
+    /// complement".
     pub fn constant(&self) -> i16 {
         self.b.cast_signed()
     }
 
     /// Whether gate `number` may have these operands: "Gates name only gates
-    /// with lower numbers; slots are below N", a constant is in its range, and
-    /// an unused b is 0.
+    /// with lower numbers; slots are below N", a constant is "from -(p-1)/2 to
+    /// (p-1)/2", and an unused b is 0.
     fn fits(&self, number: u16, head: &Head) -> bool {
         match self.kind {
             Kind::Left | Kind::Right => self.a < u16::from(head.slots) && self.b == 0,
             Kind::Add | Kind::Sub | Kind::Mul => self.a < number && self.b < number,
-            Kind::Scale => self.a < number && is_constant(head.p, self.constant()),
+            Kind::Scale => self.a < number && is_near_zero(head.p, self.constant()),
             Kind::Flip => self.a < number && self.b == 0,
         }
     }

@@ -1,7 +1,7 @@
 //! Parts of the package against each other.
 
 use second::card::{card_bytes as card, score_card_bytes as score_card, Card, Form, Relation};
-use second::field::{half_range, is_constant, near_zero, order_constants, residue, PRIMES};
+use second::field::{half_range, near_zero, order_constants, scale, PRIMES};
 use second::table::{Gate, Head, Kind, Table};
 use second::{build, check, decode, encode, expected_output, forecast, run, trim, Random};
 
@@ -279,10 +279,12 @@ fn scores_end_with_scales_and_adds() {
             number += forecast(&card(bytes[2], 50, &[(record[2], record[3])]))
                 .unwrap()
                 .gates;
-            outputs.push((number - 1, near_zero(bytes[2], record[4])));
+            let constant = near_zero(bytes[2], record[4]);
+            outputs.push((number - 1, constant.cast_unsigned()));
         }
-        for (place, (a, weight)) in outputs.into_iter().enumerate() {
-            expected.push(Gate::scale(a, weight));
+        for (place, (a, b)) in outputs.into_iter().enumerate() {
+            let kind = Kind::Scale;
+            expected.push(Gate { kind, a, b });
             number += 1;
             if place > 0 {
                 // The sum is the gate before the SCALE.
@@ -310,17 +312,20 @@ fn the_conditions_of_both_forms_have_the_same_gates() {
     assert_eq!(plain[8..shared], score[8..shared]);
 }
 
-/// Each number below p has a constant near zero, which is that number modulo p.
+/// Each number below p has one constant near zero, which scales as it does.
 #[test]
-fn constants_read_back() {
+fn constants_near_zero_are_the_old_ones_modulo_p() {
     for p in PRIMES {
-        for x in 0..p {
-            let constant = near_zero(p, x);
-            assert!(is_constant(p, constant));
-            assert_eq!((constant - i16::from(x)) % i16::from(p), 0);
-            assert_eq!(residue(p, constant), x);
-            assert_eq!(Gate::scale(0, constant).constant(), constant);
+        let most = i16::from(p / 2);
+        let mut constants: Vec<i16> = (0..p).map(|constant| near_zero(p, constant)).collect();
+        for (constant, &near) in (0..p).zip(&constants) {
+            for a in 0..p {
+                let product = u16::from(a) * u16::from(constant);
+                assert_eq!(u16::from(scale(p, a, near)), product % u16::from(p));
+            }
         }
+        constants.sort();
+        assert!(constants.into_iter().eq(-most..=most), "{p}");
     }
 }
 
@@ -368,7 +373,7 @@ fn random_table(random: &mut Random) -> Vec<u8> {
             4 => (Kind::Flip, a, 0),
             5 => (Kind::Mul, a, a),
             6 => (Kind::Mul, a, b),
-            _ => (Kind::Scale, a, Gate::scale(a, constant).b),
+            _ => (Kind::Scale, a, constant.cast_unsigned()),
         };
         bytes.extend(Gate { kind, a, b }.record());
     }

@@ -119,6 +119,17 @@ fn each_number_has_one_constant() {
     }
 }
 
+/// Only a SCALE's b is signed: with -1 in its place another kind is refused.
+#[test]
+fn other_operands_have_no_sign() {
+    for kind in 1..=7 {
+        let mut table = scale_table(7, 0xFFFF);
+        table[18] = kind;
+        let refused = check(&table) == Err(17);
+        assert_eq!(refused, kind != 5, "{kind}");
+    }
+}
+
 /// A constant above (p-1)/2, as tables had them, is turned away.
 #[test]
 fn old_tables() {

@@ -1,10 +1,10 @@
 //! Constants near zero: what a SCALE may multiply by, and what comes of it.
 
-use super::tables::{gate, table_of};
+use super::tables::{gate, scale, table_of};
 use super::writer::Script;
 use super::BENCH;
 use crate::card::score_card_bytes;
-use crate::table::{Gate, Kind, RECORD_BYTES};
+use crate::table::{Kind, RECORD_BYTES};
 
 pub fn write(script: &mut Script) {
     script.table(&TWO_SCALES);
@@ -97,7 +97,7 @@ fn both_bytes(script: &mut Script) {
 /// values.
 fn run_scales(script: &mut Script, p: u8, constants: &[i16], values: &[u8]) {
     let mut gates = vec![gate(Kind::Left, 0, 0)];
-    gates.extend(constants.iter().map(|&constant| Gate::scale(0, constant)));
+    gates.extend(constants.iter().map(|&constant| scale(0, constant)));
     script.table(&table_of(p, 60, 1, &gates));
     script.check();
     for &value in values {
@@ -124,8 +124,8 @@ fn bench_table_of_old(script: &mut Script) {
         gate(Kind::Right, 0, 0),
         gate(Kind::Sub, 0, 1),
         gate(Kind::Mul, 2, 2),
-        Gate::scale(2, 1),
-        Gate::scale(3, 2),
+        scale(2, 1),
+        scale(3, 2),
         gate(Kind::Add, 4, 5),
     ];
     script.table(&table_of(3, 75, 1, &gates));

@@ -35,6 +35,11 @@ pub fn gate(kind: Kind, a: u16, b: u16) -> Gate {
     Gate { kind, a, b }
 }
 
+/// A SCALE by a signed constant.
+pub fn scale(a: u16, constant: i16) -> Gate {
+    gate(Kind::Scale, a, constant.cast_unsigned())
+}
+
 pub fn table_of(p: u8, weight: u8, slots: u8, gates: &[Gate]) -> Vec<u8> {
     let mut bytes = head(p, weight, slots, gates.len()).record().to_vec();
     for gate in gates {
@@ -249,10 +254,11 @@ fn operands_of_each_kind(script: &mut Script) {
 
 /// The same borders where gate numbers need two bytes.
 fn operands_of_a_far_gate(script: &mut Script) {
-    // Gate 300 of a table of 441 is what the sets below make it.
+    // Gate 300 of a table of 441 is an ADD at first, then what the sets below
+    // make it.
     script.build_exactly(&card_bytes(251, 50, &[(1, 1)]));
     let record = 8 * 301;
-    let mut last = [0; 8];
+    let mut last = gate(Kind::Add, 298, 299).record();
     for far in [
         gate(Kind::Left, 0, 0),
         gate(Kind::Left, 1, 0),
@@ -263,9 +269,9 @@ fn operands_of_a_far_gate(script: &mut Script) {
         gate(Kind::Add, 300, 0),
         gate(Kind::Sub, 0, 299),
         gate(Kind::Sub, 0, 300),
-        Gate::scale(299, -125),
-        Gate::scale(299, -126),
-        Gate::scale(0, 256),
+        scale(299, -125),
+        scale(299, -126),
+        scale(0, 256),
         gate(Kind::Flip, 299, 0),
         gate(Kind::Flip, 300, 0),
         gate(Kind::Flip, 0, 1),
@@ -301,7 +307,7 @@ fn chains(script: &mut Script) {
     let mixed = vec![
         right,
         gate(Kind::Mul, 0, 0),
-        Gate::scale(1, 0),
+        scale(1, 0),
         gate(Kind::Flip, 2, 0),
         gate(Kind::Sub, 0, 3),
         gate(Kind::Mul, 0, 4),
@@ -361,7 +367,7 @@ fn draw_gates(random: &mut Random, p: u8, slots: u8) -> Vec<Gate> {
             1 => gate(Kind::Right, slot, 0),
             2 => gate(Kind::Add, a, b),
             3 => gate(Kind::Sub, a, b),
-            4 => Gate::scale(a, constant),
+            4 => scale(a, constant),
             5 => gate(Kind::Flip, a, 0),
             _ => gate(Kind::Mul, a, b),
         });
