@@ -11,15 +11,14 @@ use records::MOST_WEIGHT;
 use records::RECORD;
 use records::TableHead;
 ghost use mathlib.Core.Path.{_≡_};
-ghost use Prim.Native.Nat.{_+_, _*_, _%_, _≤_};
+ghost use Prim.Native.Nat.{_≤_};
 ghost use lib.ListN.{length, drop};
 ghost use Rattle.answer.specs.Report.{reportAnswer};
 ghost use Rattle.circuit.specs.Outcomes.{checking, trimming};
 ghost use Rattle.circuit.specs.Reading.{readGates, readHead};
-ghost use Rattle.circuit.specs.Table.{mostGates};
 ghost use Rattle.records.specs.Head.{headIs};
 ghost use Rattle.checker.specs.HeadAnswer.{headAnswer};
-ghost use Rattle.checker.specs.Reporting.{fewGates, reporting};
+ghost use Rattle.checker.specs.Reporting.{fewGates, Checkable, reporting};
 
 // The gates of a small table.
 const FEW_GATES: usize = 256;
@@ -66,7 +65,7 @@ fn read_head(table: &[u8]) -> HeadRead
 
 // The report on the first count gates, or the first of their rules that is broken. Their depths go into depths.
 fn check_gates(table: &[u8], head: TableHead, count: usize, depths: &mut [u16]) -> Reported
-    requires { ⌜ (1 ≤ count) × (count ≤ mostGates) × (8 * (count + 1) ≤ length (now table)) × (count ≤ length (now depths)) × (head .prime % 2 ≡ 1) ⌝ }
+    requires { ⌜ Checkable (now table) (headIs head) count × (count ≤ length (now depths)) ⌝ }
     ensures { λ r. ⌜ reportAnswer r ≡ reporting (headIs head) (readGates (headIs head) 0 count (drop 8 (now (table .entry)))) ⌝ }
 {
     let last = count - 1;
@@ -100,7 +99,7 @@ fn check_gates(table: &[u8], head: TableHead, count: usize, depths: &mut [u16]) 
 
 // The same with an array of depths that is quickly cleared, for the gates of a small table.
 fn check_few(table: &[u8], head: TableHead, count: usize) -> Reported
-    requires { ⌜ (1 ≤ count) × (count ≤ fewGates) × (8 * (count + 1) ≤ length (now table)) × (head .prime % 2 ≡ 1) ⌝ }
+    requires { ⌜ Checkable (now table) (headIs head) count × (count ≤ fewGates) ⌝ }
     ensures { λ r. ⌜ reportAnswer r ≡ reporting (headIs head) (readGates (headIs head) 0 count (drop 8 (now (table .entry)))) ⌝ }
 {
     let mut depths = [0u16; FEW_GATES];
@@ -109,7 +108,7 @@ fn check_few(table: &[u8], head: TableHead, count: usize) -> Reported
 
 // The same with an array for as many gates as a table may have.
 fn check_many(table: &[u8], head: TableHead, count: usize) -> Reported
-    requires { ⌜ (1 ≤ count) × (count ≤ mostGates) × (8 * (count + 1) ≤ length (now table)) × (head .prime % 2 ≡ 1) ⌝ }
+    requires { ⌜ Checkable (now table) (headIs head) count ⌝ }
     ensures { λ r. ⌜ reportAnswer r ≡ reporting (headIs head) (readGates (headIs head) 0 count (drop 8 (now (table .entry)))) ⌝ }
 {
     let mut depths = [0u16; MOST_GATES];
@@ -118,7 +117,7 @@ fn check_many(table: &[u8], head: TableHead, count: usize) -> Reported
 
 // The report on the gates after a head, with room for their depths.
 fn check_after(table: &[u8], head: TableHead, count: usize) -> Reported
-    requires { ⌜ (1 ≤ count) × (count ≤ mostGates) × (8 * (count + 1) ≤ length (now table)) × (head .prime % 2 ≡ 1) ⌝ }
+    requires { ⌜ Checkable (now table) (headIs head) count ⌝ }
     ensures { λ r. ⌜ reportAnswer r ≡ reporting (headIs head) (readGates (headIs head) 0 count (drop 8 (now (table .entry)))) ⌝ }
 {
     if count <= FEW_GATES {

@@ -58,7 +58,7 @@ read-gate-requires : tie.Need-read-gate-requires Inv-loop μ-loop
 read-gate-requires c κs =
     let l = c .before .before .before in
     let s = l .before .before .before in
-    (lent-long (s .args .table .now) (s .args .count) (l .loop .k) (omega arith) (omega arith), l .loop .inv .0 .low, s .pre .4)
+    (lent-long (s .args .table .now) (s .args .count) (l .loop .k) (omega arith) (omega arith), l .loop .inv .0 .low, s .pre .0 .3)
 
 enum-known-depth : tie.Need-enum-known-depth Inv-loop μ-loop
 enum-known-depth c = search needs
@@ -83,7 +83,7 @@ after c =
     let l = r .before .before .before .before in
     let s = l .before .before .before in
     let less : l .loop .k < s .args .count = omega (arith, r .before .before .before .loop-test .taken) in (
-      adds _ _ _ _ _ _ _ _ less (s .pre .1) (l .loop .inv .0) _ _ _
+      adds _ _ _ _ _ _ _ _ less (s .pre .0 .1) (l .loop .inv .0) _ _ _
           (sym (ap addedAnswer (c .before .depth .given .1)) ∙ r .read-gate .ensures),
       rw length-set (l .loop .inv .1),
     )
@@ -106,7 +106,7 @@ returns c =
     let l = r .before .before .before .before in
     let s = l .before .before .before in
     let less : l .loop .k < s .args .count = omega (arith, r .before .before .before .loop-test .taken) in
-    refuses _ _ _ _ _ _ _ _ less (s .pre .1) (l .loop .inv .0) _
+    refuses _ _ _ _ _ _ _ _ less (s .pre .0 .1) (l .loop .inv .0) _
     (sym (ap addedAnswer (c .before .why .given .1)) ∙ r .read-gate .ensures)
 
 add-k : tie.Need-add-k Inv-loop μ-loop
@@ -131,14 +131,14 @@ cost-of-requires : tie.Need-cost-of-requires Inv-loop μ-loop
 cost-of-requires c κs =
     let l = c .before in
     let s = l .before .before .before in
-    (omega (arith, l .loop .inv .0 .few, l .loop .inv .0 .most, s .pre .1), omega (arith, l .loop .inv .0 .few, l .loop .inv .0 .most, s .pre .1))
+    (omega (arith, l .loop .inv .0 .few, l .loop .inv .0 .most, s .pre .0 .1), omega (arith, l .loop .inv .0 .few, l .loop .inv .0 .most, s .pre .0 .1))
 
 mul-t28 : tie.Need-mul-t28 Inv-loop μ-loop
 mul-t28 c = search needs
 
 slice-read-t30 : tie.Need-slice-read-t30 Inv-loop μ-loop
 slice-read-t30 c =
-    let l = c .before .before .before in omega (arith, l .loop .inv .0 .long, l .before .before .before .pre .0)
+    let l = c .before .before .before in omega (arith, l .loop .inv .0 .long, l .before .before .before .pre .0 .0)
 
 same-length-2 : tie.Need-same-length-2 Inv-loop μ-loop
 same-length-2 c = c .before .before .before .loop .inv .1
@@ -147,7 +147,7 @@ returns-2 : tie.Need-returns-2 Inv-loop μ-loop
 returns-2 c =
     let l = c .before .before .before in
     let s = l .before .before .before in
-    finishes _ _ _ _ _ _ _ _ _ (s .pre .0) (c .before .before .loop-test .left) (s .pre .1) (c .before .cost-of .ensures) (l .loop .inv .0)
+    finishes _ _ _ _ _ _ _ _ _ (s .pre .0 .0) (c .before .before .loop-test .left) (s .pre .0 .1) (c .before .cost-of .ensures) (l .loop .inv .0)
 
 pub check-gates-spec : {M : Type 1} → statement M
 check-gates-spec =
