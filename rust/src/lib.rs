@@ -6,8 +6,9 @@
 //! take both.
 //!
 //! The b of a SCALE in a table is its constant: a signed number of 16 bits, two's complement, from
-//! -(p-1)/2 to (p-1)/2. `check`, `trim` and `run` take no table that was kept from before constants
-//! had signs and has one above (p-1)/2: it is built anew from its card.
+//! -(p-1)/2 to (p-1)/2. A table that was kept from before constants had signs, with one above
+//! (p-1)/2, is refused with 17 by `check` and `run`, and `trim` hands back its empty part: build it
+//! anew from its card.
 //!
 //! Each `unsafe` call is sound: a slice is passed as its pointer and its length, no reference is
 //! null, and Rust keeps what is lent for writing apart from everything else.

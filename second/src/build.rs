@@ -1,4 +1,5 @@
-//! Build: "Writing one condition", "Whole card" and "Scored queries".
+//! Build: "Writing one condition", "Whole card" and "Scored queries", all with
+//! "Constants near zero".
 
 use crate::card::{Card, Condition, Form, Relation};
 use crate::field::{near_zero, order_constants};

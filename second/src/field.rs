@@ -1,4 +1,5 @@
-//! "Field and digits": the primes, the half range and sums modulo a prime.
+//! "Field and digits": the primes, the half range, sums modulo a prime, and
+//! "Constants near zero".
 
 /// The 53 odd primes from 3 to 251.
 pub const PRIMES: [u8; 53] = [
