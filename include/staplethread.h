@@ -1,15 +1,15 @@
 /* Staplethread for C and C++: query cards, gate tables and digits.
  *
- * The rules are those of document 01, "The query builder and its exact rules", and of scored queries
- * and of constants near zero those of document 02.
+ * The rules are those of document 01, "The query builder and its exact rules", and of scored queries,
+ * of constants near zero and of last-use lists those of document 02.
  *
- * A list of bytes is a pointer, then its length in bytes. Pointers are not null, not even those of
- * empty lists. What a call writes overlaps nothing else that is lent to it. Nothing is kept after a
- * call, nothing is allocated, and calls on separate buffers may run at the same time.
+ * A list is a pointer, then its length in entries, which for bytes are bytes. Pointers are not null,
+ * not even those of empty lists. What a call writes overlaps nothing else that is lent to it. Nothing
+ * is kept after a call, nothing is allocated, and calls on separate buffers may run at the same time.
  *
  * Every operation but Trim answers 0 on success, or the number of its refusal. A refusal leaves
- * every lent byte and number unaltered. Where several rules are broken, the number is that of the
- * first one in the order given here.
+ * every lent byte, entry and number unaltered. Where several rules are broken, the number is that of
+ * the first one in the order given here.
  */
 #ifndef STAPLETHREAD_H
 #define STAPLETHREAD_H
@@ -142,6 +142,18 @@ uint8_t staplethread_run(const uint8_t *table, size_t table_length,
                          const uint8_t *right, size_t right_length,
                          uint8_t *work, size_t work_length,
                          uint8_t *output);
+
+/* The last-use list of a table: entry i of its first G entries becomes the number of the last gate
+ * that reads gate i, or i where none does; later entries are kept; gates is G. No gate is read after
+ * the one that its entry names, and no list of which that is so has an earlier entry. The output is
+ * the last gate, G-1, and has its own number. A runner that has carried gate k out lets go of each
+ * gate that it read whose entry is k, and of gate k itself where its own entry is k, unless it is
+ * the output.
+ * Refuses as Check does, then
+ * 27  list under G entries */
+uint8_t staplethread_last_uses(const uint8_t *table, size_t table_length,
+                               uint16_t *list, size_t list_length,
+                               uint16_t *gates);
 
 /* ---- The same with a report */
 

@@ -44,6 +44,22 @@ static void print_report(const char *operation, staplethread_report report)
            (unsigned long)report.cost.hundredths, (unsigned)report.depth.levels);
 }
 
+/* How many gates are held at once, at most, where each is let go after its last use. */
+static unsigned most_held(const uint16_t *list, unsigned gates)
+{
+    unsigned most = 0, k, i;
+
+    for (k = 0; k < gates; k++) {
+        unsigned held = 0;
+
+        for (i = 0; i <= k; i++)
+            held += list[i] >= k;
+        if (held > most)
+            most = held;
+    }
+    return most;
+}
+
 int main(void)
 {
     static const struct { uint64_t distance, grade; } records[] = { { 34, 4 }, { 12, 5 } };
@@ -51,6 +67,7 @@ int main(void)
     uint8_t query[SLOTS];
     size_t table_length, i;
     uint8_t *table, *work;
+    uint16_t *list, gates;
 
     expect("forecast", staplethread_forecast_report(card, sizeof card, &report));
     print_report("forecast", report);
@@ -58,7 +75,8 @@ int main(void)
     table_length = 8 * ((size_t)report.gates + 1);
     table = malloc(table_length);
     work = malloc(report.gates);
-    if (table == NULL || work == NULL) {
+    list = malloc(report.gates * sizeof *list);
+    if (table == NULL || work == NULL || list == NULL) {
         fputs("no memory\n", stderr);
         return 1;
     }
@@ -67,6 +85,8 @@ int main(void)
     print_report("build", report);
     expect("check", staplethread_check_report(table, table_length, &report));
     print_report("check", report);
+    expect("last_uses", staplethread_last_uses(table, table_length, list, report.gates, &gates));
+    printf("held at once: at most %u of %u\n", most_held(list, gates), (unsigned)gates);
 
     encode(20, 3, query);
     for (i = 0; i < sizeof records / sizeof records[0]; i++) {
@@ -79,6 +99,7 @@ int main(void)
                (unsigned long)records[i].grade, (unsigned)bit, (unsigned)report.depth.levels);
     }
 
+    free(list);
     free(work);
     free(table);
     return 0;

@@ -81,11 +81,19 @@ fn rows(name: &'static str, card: &[u8]) -> Vec<Row> {
         &mut || keep(second::run(black_box(&table), &left, &right, &mut values)),
     );
     assert_eq!(work, values);
+    let (mut list, mut expected) = (vec![0; gates], vec![0; gates]);
+    let last_uses = compare(
+        calls,
+        &mut || keep(staplethread::last_uses(black_box(&table), &mut list)),
+        &mut || keep(second::last_uses(black_box(&table), &mut expected)),
+    );
+    assert_eq!(list, expected);
     [
         ("Build", build),
         ("Forecast", forecast),
         ("Check", check),
         ("Run", run),
+        ("Last uses", last_uses),
     ]
     .into_iter()
     .map(|(operation, (library, plain))| Row {

@@ -2,7 +2,7 @@
 //! records; then "how bad is this stretch?", a score over the same two conditions. Plain digits
 //! stand where the runner has ciphertexts.
 
-use staplethread::{build, encode, forecast, run, Refusal};
+use staplethread::{build, encode, forecast, last_uses, run, Refusal};
 
 /// B = 16: a distance of up to 4,095 m takes three digits, a grade one.
 const P: u8 = 31;
@@ -25,6 +25,12 @@ fn slots(distance: u64, grade: u64) -> Result<[u8; 4], Refusal> {
     Ok(digits)
 }
 
+/// How many gates are held at once, at most, where each is let go after its last use.
+fn most_held(list: &[u16]) -> usize {
+    let held = |k: usize| (0..=k).filter(|&i| usize::from(list[i]) >= k).count();
+    (0..list.len()).map(held).max().unwrap_or(0)
+}
+
 /// Builds the card's table and runs it on each record, a distance and a grade.
 fn ask(card: &[u8], records: &[(u64, u64)]) -> Result<(), Refusal> {
     let report = forecast(card)?;
@@ -34,6 +40,9 @@ fn ask(card: &[u8], records: &[(u64, u64)]) -> Result<(), Refusal> {
     );
     let mut table = vec![0; report.table_bytes()];
     build(card, &mut table)?;
+    let mut list = vec![0; usize::from(report.gates)];
+    let gates = last_uses(&table, &mut list)?;
+    println!("held at once: at most {} of {gates}", most_held(&list));
     let mut work = vec![0; usize::from(report.gates)];
     let query = slots(20, 3)?;
     for &(distance, grade) in records {

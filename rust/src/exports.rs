@@ -43,6 +43,13 @@ extern "C" {
         work_length: usize,
         output: &mut u8,
     ) -> u8;
+    pub fn staplethread_last_uses(
+        table: *const u8,
+        table_length: usize,
+        list: *mut u16,
+        list_length: usize,
+        gates: &mut u16,
+    ) -> u8;
     pub fn staplethread_encode(p: u8, n: usize, number: u64, out: *mut u8, out_length: usize)
         -> u8;
     pub fn staplethread_decode(

@@ -1,13 +1,13 @@
-//! The query builder for encrypted records: seven operations of a proved library, called safely.
+//! The query builder for encrypted records: eight operations of a proved library, called safely.
 //!
 //! Every function answers for all inputs. A refusal is the rules' number and nothing else, and
-//! leaves every lent byte as it was. A card is a plain one, which asks for a yes or no, or a score
+//! leaves every lent byte and entry as it was. A card is a plain one, which asks for a yes or no, or a score
 //! card, which asks for the sum of the weights of the conditions that hold; `build` and `forecast`
 //! take both.
 //!
 //! The b of a SCALE in a table is its constant: a signed number of 16 bits, two's complement, from
 //! -(p-1)/2 to (p-1)/2. A table that was kept from before constants had signs, with one above
-//! (p-1)/2, is refused with 17 by `check` and `run`, and `trim` hands back its empty part: build it
+//! (p-1)/2, is refused with 17 by `check`, `run` and `last_uses`, and `trim` hands back its empty part: build it
 //! anew from its card.
 //!
 //! Each `unsafe` call is sound: a slice is passed as its pointer and its length, no reference is
@@ -131,6 +131,18 @@ fn run_into(table: &[u8], left: &[u8], right: &[u8], work: &mut [u8], output: &m
     }
 }
 
+fn last_uses_into(table: &[u8], list: &mut [u16], gates: &mut u16) -> u8 {
+    unsafe {
+        exports::staplethread_last_uses(
+            table.as_ptr(),
+            table.len(),
+            list.as_mut_ptr(),
+            list.len(),
+            gates,
+        )
+    }
+}
+
 fn decode_into(p: u8, digits: &[u8], number: &mut u64) -> u8 {
     unsafe { exports::staplethread_decode(p, digits.as_ptr(), digits.len(), number) }
 }
@@ -163,6 +175,17 @@ pub fn trim(table: &[u8]) -> &[u8] {
 pub fn run(table: &[u8], left: &[u8], right: &[u8], work: &mut [u8]) -> Result<u8, Refusal> {
     let mut output = 0;
     accepted(run_into(table, left, right, work, &mut output), output)
+}
+
+/// For each gate the number of the last gate that reads it, or its own number where none does, at
+/// the start of `list`; the answer is the gate count. By that list no gate is read after its
+/// release, and no list by which that is so releases any gate earlier.
+///
+/// A runner that has carried gate k out lets go of each gate that it read whose entry is k, and of
+/// gate k itself where its own entry is k, unless it is the last one, the output.
+pub fn last_uses(table: &[u8], list: &mut [u16]) -> Result<u16, Refusal> {
+    let mut gates = 0;
+    accepted(last_uses_into(table, list, &mut gates), gates)
 }
 
 /// The n digits of a number, lowest first, at the start of `out`.
@@ -198,9 +221,10 @@ mod tests {
         assert_eq!(build_into(&CARD, &mut table, &mut told), 11);
         assert_eq!(check_into(&table[..7], &mut told), 12);
         assert_eq!(told, before);
-        let (mut output, mut number) = (6, 7);
+        let (mut output, mut number, mut gates) = (6, 7, 8);
         assert_eq!(run_into(&table, &[0], &[0], &mut [], &mut output), 2);
         assert_eq!(decode_into(5, &[3], &mut number), 23);
-        assert_eq!((output, number), (6, 7));
+        assert_eq!(last_uses_into(&table, &mut [], &mut gates), 2);
+        assert_eq!((output, number, gates), (6, 7, 8));
     }
 }

@@ -1,5 +1,6 @@
 //! The proved library against the second program: random and damaged cards, tables and lists,
-//! every answer and every byte of every lent buffer, and the bytes around it.
+//! every answer and every byte of every lent buffer, every entry of every lent list, and what is
+//! around it.
 //!
 //! STAPLETHREAD_ROUNDS sets how many rounds each test takes, but for `each_word` and
 //! `each_constant`, which take each word, and each b of a SCALE at each prime, once.
@@ -56,27 +57,40 @@ fn number_of<T>(answer: Result<T, staplethread::Refusal>) -> Result<T, u8> {
     answer.map_err(|why| why.0)
 }
 
-/// Lends the same random bytes to both sides, inside a margin that neither may touch.
-fn compare_lent<T: PartialEq + Debug>(
-    random: &mut Random,
-    length: usize,
+/// What neither side may touch, before and after what is lent.
+const MARGIN: usize = 16;
+
+/// Lends the same to both sides, inside a margin.
+fn compare_lent<E: Copy + PartialEq, T: PartialEq + Debug>(
+    mut ours: Vec<E>,
     input: &dyn Debug,
-    library: impl FnOnce(&mut [u8]) -> Result<T, u8>,
-    plain: impl FnOnce(&mut [u8]) -> Result<T, u8>,
-) -> (Result<T, u8>, Vec<u8>) {
-    const MARGIN: usize = 16;
-    let seed = random.next_u64();
-    let mut ours = bytes_of(seed, length + 2 * MARGIN);
+    library: impl FnOnce(&mut [E]) -> Result<T, u8>,
+    plain: impl FnOnce(&mut [E]) -> Result<T, u8>,
+) -> (Result<T, u8>, Vec<E>) {
     let mut theirs = ours.clone();
-    let lent = MARGIN..MARGIN + length;
+    let lent = MARGIN..ours.len() - MARGIN;
+    let length = lent.len();
     let answer = library(&mut ours[lent.clone()]);
     let expected = plain(&mut theirs[lent.clone()]);
-    assert_eq!(answer, expected, "{length} bytes lent, {input:02X?}");
+    assert_eq!(answer, expected, "{length} lent, {input:02X?}");
     if ours != theirs {
         let place = (0..ours.len()).find(|&i| ours[i] != theirs[i]);
-        panic!("byte {place:?} differs, {length} bytes lent, {input:02X?}");
+        panic!("place {place:?} differs, {length} lent, {input:02X?}");
     }
     (answer, ours[lent].to_vec())
+}
+
+/// So many random bytes to lend, and those of the margin.
+fn drawn_bytes(random: &mut Random, length: usize) -> Vec<u8> {
+    bytes_of(random.next_u64(), length + 2 * MARGIN)
+}
+
+/// The same of u16.
+fn drawn_entries(random: &mut Random, length: usize) -> Vec<u16> {
+    bytes_of(random.next_u64(), 2 * (length + 2 * MARGIN))
+        .chunks_exact(2)
+        .map(|pair| u16::from_le_bytes([pair[0], pair[1]]))
+        .collect()
 }
 
 /// Bytes by a seed: eight from each draw, as there are many.
@@ -234,8 +248,7 @@ fn cards() {
         let needed = told.as_ref().map_or(64, |r| 8 * (usize::from(r.0) + 1));
         let length = room(&mut random, needed);
         let (answer, _) = compare_lent(
-            &mut random,
-            length,
+            drawn_bytes(&mut random, length),
             &card,
             |table| of_library(staplethread::build(&card, table)),
             |table| of_second(second::build(&card, table)),
@@ -376,8 +389,7 @@ fn compare_run(
     length: usize,
 ) -> Result<u8, u8> {
     let (output, _) = compare_lent(
-        random,
-        length,
+        drawn_bytes(random, length),
         &(table, left, right),
         |work| number_of(staplethread::run(table, left, right, work)),
         |work| second::run(table, left, right, work),
@@ -385,11 +397,23 @@ fn compare_run(
     output
 }
 
+/// What both sides answer to a last-use list of so many entries.
+fn compare_last_uses(random: &mut Random, table: &[u8], length: usize) -> Result<u16, u8> {
+    let (gates, _) = compare_lent(
+        drawn_entries(random, length),
+        &table,
+        |list| number_of(staplethread::last_uses(table, list)),
+        |list| second::last_uses(table, list),
+    );
+    gates
+}
+
 #[test]
 fn tables() {
     let mut random = Random::new(2);
     let mut checked = Seen::default();
     let mut run = Seen::default();
+    let mut listed = Seen::default();
     for _ in 0..rounds() {
         let table = table(&mut random);
         let before = table.clone();
@@ -407,10 +431,13 @@ fn tables() {
         let gates = answer.as_ref().map_or(7, |r| usize::from(r.0));
         let length = room(&mut random, gates);
         run.note(&compare_run(&mut random, &table, &left, &right, length));
+        let length = room(&mut random, gates);
+        listed.note(&compare_last_uses(&mut random, &table, length));
         assert_eq!(table, before);
     }
     checked.expect("check", &[0, 2, 3, 4, 5, 12, 13, 14, 15, 16, 17]);
     run.expect("run", &[0, 2, 3, 4, 5, 12, 13, 14, 15, 16, 17, 18, 19, 20]);
+    listed.expect("last_uses", &[0, 2, 3, 4, 5, 12, 13, 14, 15, 16, 17, 27]);
 }
 
 /// A LEFT and a second gate, whose record opens with a word and has operands that every kind may
@@ -568,8 +595,7 @@ fn encodings() {
         let number = random.next_u64() >> random.below(64);
         let length = room(&mut random, n);
         let (answer, lent) = compare_lent(
-            &mut random,
-            length,
+            drawn_bytes(&mut random, length),
             &(p, n, number),
             |out| number_of(staplethread::encode(p, n, number, out)),
             |out| second::encode(p, n, number, out),

@@ -1,6 +1,7 @@
 //! The query builder: cards, gate tables, the plain run of a table, digit
 //! coding and a forecast, as the document on the builder's rules has them, and
-//! scored queries and constants near zero, as the requests for them do.
+//! scored queries, constants near zero and the last-use list, as the requests
+//! for them do.
 
 pub mod build;
 pub mod card;
@@ -9,6 +10,7 @@ pub mod digits;
 pub mod direct;
 pub mod field;
 pub mod forecast;
+pub mod last_use;
 pub mod listing;
 pub mod random;
 pub mod refusal;
@@ -22,6 +24,7 @@ pub use cases::cases;
 pub use digits::{decode, encode};
 pub use direct::expected_output;
 pub use forecast::forecast;
+pub use last_use::last_uses;
 pub use listing::listing;
 pub use random::Random;
 pub use refusal::Refusal;

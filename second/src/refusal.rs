@@ -1,5 +1,5 @@
 //! The numbers of "Operations and what they turn away", and those of scored
-//! queries.
+//! queries and of the last-use list.
 
 /// A refusal answers its number and nothing else.
 pub type Refusal = u8;
@@ -30,6 +30,7 @@ pub const DIGIT_LARGE: Refusal = 23;
 pub const NUMBER_OVERFLOW: Refusal = 24;
 pub const CONDITION_WEIGHT: Refusal = 25;
 pub const TOTAL_WEIGHT: Refusal = 26;
+pub const USES_ROOM: Refusal = 27;
 
 /// `Ok` where the condition holds, else the refusal.
 pub fn demand(condition: bool, refusal: Refusal) -> Result<(), Refusal> {

@@ -3,6 +3,7 @@
 use crate::build::build;
 use crate::digits::{decode, encode};
 use crate::forecast::forecast;
+use crate::last_use::last_uses;
 use crate::refusal::Refusal;
 use crate::run::run;
 use crate::table::{check, trim};
@@ -12,16 +13,18 @@ use std::str::FromStr;
 const TABLE_AREA: usize = 65_600;
 const WORK_AREA: usize = 8_200;
 const DIGIT_AREA: usize = 32;
+const USE_AREA: usize = 8_200;
 
 /// Lent bytes are written out up to this many, and summed above it.
 const SHOWN_BYTES: usize = 40;
 
-/// The bytes kept from line to line.
+/// What is kept from line to line.
 struct Areas {
     table: Vec<u8>,
     length: usize,
     work: Vec<u8>,
     digits: Vec<u8>,
+    uses: Vec<u16>,
 }
 
 /// The words of one line, taken from the front.
@@ -62,6 +65,7 @@ impl Areas {
             length: 0,
             work: vec![9; WORK_AREA],
             digits: vec![7; DIGIT_AREA],
+            uses: vec![9; USE_AREA],
         }
     }
 
@@ -78,6 +82,7 @@ impl Areas {
             "check" => Some(answer("", check(self.current_table()))),
             "trim" => Some(format!("length {}", trim(self.current_table()).len())),
             "run" => Some(self.run(&mut words)),
+            "last_uses" => Some(self.last_uses(&mut words)),
             "encode" => Some(self.encode(&mut words)),
             "decode" => Some(self.decode(&mut words)),
             "table" => {
@@ -118,6 +123,13 @@ impl Areas {
         let lent = &mut self.work[..room];
         let outcome = run(&self.table[..self.length], &left, &right, lent);
         answer("output ", outcome) + &lent_bytes(lent)
+    }
+
+    fn last_uses(&mut self, words: &mut Words) -> String {
+        let room: usize = words.number();
+        let lent = &mut self.uses[..room];
+        let outcome = last_uses(&self.table[..self.length], lent);
+        answer("gates ", outcome) + &lent_bytes(&entry_bytes(lent))
     }
 
     fn encode(&mut self, words: &mut Words) -> String {
@@ -207,6 +219,14 @@ fn lent_bytes(lent: &[u8]) -> String {
     } else {
         format!(", lent checksum {}", checksum(lent))
     }
+}
+
+/// Two bytes an entry, the low one first.
+fn entry_bytes(entries: &[u16]) -> Vec<u8> {
+    entries
+        .iter()
+        .flat_map(|entry| entry.to_le_bytes())
+        .collect()
 }
 
 /// Starts at 1; each byte makes it (257 * S + byte) modulo 65521.

@@ -158,6 +158,18 @@ impl Gate {
         }
     }
 
+    /// The gates that this one reads: "ADD a+b", "SUB a-b" and "MUL a times b"
+    /// two, "SCALE gate a times constant b" and "FLIP 1-a" one, and "LEFT slot
+    /// a" and "RIGHT slot a" none.
+    pub fn reads(&self) -> impl Iterator<Item = u16> {
+        let (a, b) = match self.kind {
+            Kind::Left | Kind::Right => (None, None),
+            Kind::Scale | Kind::Flip => (Some(self.a), None),
+            Kind::Add | Kind::Sub | Kind::Mul => (Some(self.a), Some(self.b)),
+        };
+        a.into_iter().chain(b)
+    }
+
     /// "A MUL with a=b is a square."
     pub fn is_square(&self) -> bool {
         self.kind == Kind::Mul && self.a == self.b
@@ -184,8 +196,8 @@ impl<'a> Table<'a> {
         Ok(Table { head, bytes })
     }
 
-    /// The gates in order.
-    pub fn gates(&self) -> impl Iterator<Item = Gate> + 'a {
+    /// The gates in order; they can be walked from the last one too.
+    pub fn gates(&self) -> impl DoubleEndedIterator<Item = Gate> + ExactSizeIterator + 'a {
         self.bytes[RECORD_BYTES..]
             .chunks_exact(RECORD_BYTES)
             .map(|record| Gate::fields(record).expect("gates of a read table are sound"))

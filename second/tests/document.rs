@@ -1,10 +1,12 @@
 //! The cases that the document gives, starred ones too, and the rules of scored
-//! queries and of constants near zero.
+//! queries, of constants near zero and of the last-use list.
 
 use second::card::{card_bytes as card, score_card_bytes as score_card};
 use second::field::{order_constants, PRIMES};
 use second::table::{Kind, Table};
-use second::{build, check, decode, encode, forecast, listing, run, Cost, Depth, Refusal, Report};
+use second::{
+    build, check, decode, encode, forecast, last_uses, listing, run, Cost, Depth, Refusal, Report,
+};
 
 const BENCH: [u8; 10] = [0xC5, 0x48, 0x03, 0x4B, 1, 0, 0xC5, 0x51, 1, 1];
 
@@ -276,6 +278,104 @@ fn total_weights() {
     refused(&score_card(13, 50, &[(1, 8, 6), (5, 8, 7)]), 26);
     refused(&score_card(13, 50, &[(1, 8, 6), (5, 9, 7)]), 10);
     refused(&score_card(13, 50, &[(1, 8, 6), (5, 9, 13)]), 25);
+}
+
+/// "A list of u16, one for each gate: the number of the last gate that reads
+/// it, or its own number where none does." "Entries beyond the first G are kept;
+/// success answers G."
+#[test]
+fn last_use_list() {
+    let mut list = [9; 10];
+    assert_eq!(last_uses(&built(&BENCH), &mut list[..7]), Ok(7));
+    assert_eq!(list, [2, 2, 4, 5, 6, 6, 6, 9, 9, 9]);
+    list = [9; 10];
+    assert_eq!(last_uses(&built(&BENCH), &mut list), Ok(7));
+    assert_eq!(list, [2, 2, 4, 5, 6, 6, 6, 9, 9, 9]);
+    assert_eq!(last_uses(&built(&SCORE_BENCH), &mut list), Ok(8));
+    assert_eq!(list, [2, 2, 4, 5, 6, 6, 7, 7, 9, 9]);
+    // "The output counts as read by itself."
+    for p in PRIMES {
+        let table = built(&card(p, 50, &[(2, 2)]));
+        let gates = table.len() / 8 - 1;
+        let mut list = vec![0; gates];
+        assert_eq!(last_uses(&table, &mut list), Ok(gates as u16));
+        assert_eq!(usize::from(list[gates - 1]), gates - 1);
+    }
+}
+
+/// Slots and constants are no gates, nor is an unused b; the gates that the
+/// output does not need are readers all the same.
+#[test]
+fn what_reads_a_gate() {
+    let table = [
+        0x47, 0x48, 7, 50, 3, 0, 9, 0, //
+        0x47, 0x54, 1, 0, 0, 0, 0, 0, // 0 LEFT 0
+        0x47, 0x54, 2, 0, 0, 0, 0, 0, // 1 RIGHT 0
+        0x47, 0x54, 4, 0, 1, 0, 0, 0, // 2 SUB 1 0
+        0x47, 0x54, 5, 0, 2, 0, 1, 0, // 3 SCALE 2 1
+        0x47, 0x54, 1, 0, 2, 0, 0, 0, // 4 LEFT 2
+        0x47, 0x54, 2, 0, 1, 0, 0, 0, // 5 RIGHT 1
+        0x47, 0x54, 7, 0, 4, 0, 4, 0, // 6 MUL 4 4
+        0x47, 0x54, 6, 0, 3, 0, 0, 0, // 7 FLIP 3
+        0x47, 0x54, 5, 0, 3, 0, 0xFD, 0xFF, // 8 SCALE 3 -3
+    ];
+    let mut list = [0; 9];
+    assert_eq!(last_uses(&table, &mut list), Ok(9));
+    assert_eq!(list, [2, 2, 3, 8, 6, 5, 6, 7, 8]);
+}
+
+/// "27, list shorter than G, after all of Check's." "A refusal answers its
+/// number and nothing else; every lent byte is then unaltered."
+#[test]
+fn last_use_refusals() {
+    let table = built(&BENCH);
+    let mut damaged = vec![(table[..7].to_vec(), 12), (table[..63].to_vec(), 15)];
+    for (place, byte, number) in [
+        (1, 0x54, 2),
+        (2, 9, 3),
+        (3, 49, 4),
+        (4, 17, 13),
+        (5, 1, 5),
+        (6, 0, 14),
+        (7, 32, 14),
+        (6, 8, 15),
+        (57, 0x48, 2),
+        (59, 1, 5),
+        (58, 8, 16),
+        (60, 6, 17),
+        (62, 6, 17),
+    ] {
+        let mut bytes = table.clone();
+        bytes[place] = byte;
+        damaged.push((bytes, number));
+    }
+    for room in 0..=9 {
+        let mut list = vec![9; room];
+        for (bytes, number) in &damaged {
+            assert_eq!(check(bytes), Err(*number));
+            assert_eq!(last_uses(bytes, &mut list), Err(*number));
+            assert_eq!(list, vec![9; room]);
+        }
+        if room < 7 {
+            assert_eq!(last_uses(&table, &mut list), Err(27));
+            assert_eq!(list, vec![9; room]);
+        } else {
+            assert_eq!(last_uses(&table, &mut list), Ok(7));
+        }
+    }
+}
+
+/// "Later bytes are not looked at", a gate that reads among them.
+#[test]
+fn last_uses_before_later_bytes() {
+    let mut table = built(&BENCH);
+    table.extend([0x47, 0x54, 3, 0, 0, 0, 1, 0]);
+    let mut list = [9; 8];
+    assert_eq!(last_uses(&table, &mut list), Ok(7));
+    assert_eq!(list, [2, 2, 4, 5, 6, 6, 6, 9]);
+    table[6] = 8;
+    assert_eq!(last_uses(&table, &mut list), Ok(8));
+    assert_eq!(list, [7, 7, 4, 5, 6, 6, 6, 7]);
 }
 
 #[test]

@@ -44,7 +44,8 @@ fn bytes(word: &str) -> Vec<u8> {
 #[test]
 fn the_example() {
     let script = "build 64 C548034B0100C5510101\ncheck\nrun 8 00 01\n\
-                  encode 5 2 8 3\ndecode 5 0202\ntrim\ncut 63\ntrim\nbuild 9 -\n";
+                  encode 5 2 8 3\ndecode 5 0202\ntrim\nlast_uses 7\nlast_uses 0\n\
+                  last_uses 8\ncut 63\ntrim\nlast_uses 2\nbuild 9 -\n";
     let expected = "build 64 C548034B0100C5510101: \
         gates 7 products 0 squares 1 cost 75 depth 1, lent checksum 35754\n\
         check: gates 7 products 0 squares 1 cost 75 depth 1\n\
@@ -52,7 +53,11 @@ fn the_example() {
         encode 5 2 8 3: done, lent 020207\n\
         decode 5 0202: number 8\n\
         trim: length 64\n\
+        last_uses 7: gates 7, lent 0200020004000500060006000600\n\
+        last_uses 0: refused 27, lent -\n\
+        last_uses 8: gates 7, lent 02000200040005000600060006000900\n\
         trim: length 0\n\
+        last_uses 2: refused 15, lent 02000200\n\
         build 9 -: refused 1, lent 4748034B0100070047\n";
     assert_eq!(answers(script), expected);
 }
@@ -62,7 +67,7 @@ fn the_script_keeps_its_form() {
     let script = cases();
     assert!(script.is_ascii() && script.ends_with('\n') && !script.contains('\r'));
     assert!(script.len() <= 250_000);
-    assert!((3_000..=10_000).contains(&script.lines().count()));
+    assert!((3_000..=10_500).contains(&script.lines().count()));
     assert_eq!(script, cases());
     for line in script.lines() {
         let words: Vec<&str> = line.split(' ').collect();
@@ -74,6 +79,7 @@ fn the_script_keeps_its_form() {
             "build" => words.len() == 3 && number(1) <= 65_600 && list(2) <= 64,
             "check" | "trim" => words.len() == 1,
             "run" => words.len() == 4 && number(1) <= 8_200 && list(2) <= 64 && list(3) <= 64,
+            "last_uses" => words.len() == 2 && number(1) <= 8_200,
             "encode" => {
                 words.len() == 5 && number(1) <= 255 && number(2) <= 65_600 && number(4) <= 32
             }
@@ -101,11 +107,12 @@ fn each_refusal_of_each_operation_comes_up() {
                 .or_default() += 1;
         }
     }
-    let expected: [(&str, &[u8]); 6] = [
+    let expected: [(&str, &[u8]); 7] = [
         ("forecast", &[1, 2, 3, 4, 5, 6, 7, 8, 9, 10, 25, 26]),
         ("build", &[1, 2, 3, 4, 5, 6, 7, 8, 9, 10, 11, 25, 26]),
         ("check", &[2, 3, 4, 5, 12, 13, 14, 15, 16, 17]),
         ("run", &[2, 3, 4, 5, 12, 13, 14, 15, 16, 17, 18, 19, 20]),
+        ("last_uses", &[2, 3, 4, 5, 12, 13, 14, 15, 16, 17, 27]),
         ("encode", &[3, 9, 21, 22]),
         ("decode", &[3, 9, 23, 24]),
     ];
@@ -170,6 +177,7 @@ fn each_kind_of_answer_comes_up() {
         ("run", "output 0,"),
         ("run", "output 1,"),
         ("run", "output 2,"),
+        ("last_uses", "gates "),
         ("encode", "done"),
         ("decode", "number "),
     ] {
@@ -456,4 +464,14 @@ fn the_longest_table_is_run() {
     assert!(text.contains("trim: length 65536\n"));
     assert!(text.contains("run 8190 07070707070707070707070707070707 "));
     assert!(text.contains("run 8191 07070707070707070707070707070707 "));
+}
+
+#[test]
+fn the_longest_list_is_asked_for() {
+    let text = answers(&cases());
+    assert!(text.contains("last_uses 8190: refused 27, "));
+    assert!(text.contains("last_uses 8191: gates 8191, "));
+    assert!(text.contains("last_uses 8200: gates 8191, "));
+    // Gate 0 is read by gate 8190.
+    assert!(text.contains("last_uses 20: refused 27, lent FE1F"));
 }

@@ -1,7 +1,7 @@
--- The number of each refusal (document 01, "Operations and what they turn away"; document 02, E1), with the rule that gives it.
+-- The number of each refusal (document 01, "Operations and what they turn away"; document 02, E1 and E4), with the rule that gives it.
 use Prim.Native.Nat.{ℕ}
 use Rattle.answer.specs.declared.Refusal.{Refusal}
-use Rattle.answer.specs.declared.Refusal.the-variants.{CardTooShort, WrongMark, PrimeNotListed, WeightOutOfRange, SpareNotZero, ConditionCount, CardLength, UnknownRelation, DigitCount, TooManyDigits, TableBufferTooSmall, TableHeadTooShort, SlotCount, GateCount, TableTooShort, UnknownKind, WrongOperand, ListLength, ValueTooLarge, WorkBufferTooSmall, OutBufferTooSmall, NumberTooLarge, DigitTooLarge, NumberTooWide, ScoreWeight, TotalWeight}
+use Rattle.answer.specs.declared.Refusal.the-variants.{CardTooShort, WrongMark, PrimeNotListed, WeightOutOfRange, SpareNotZero, ConditionCount, CardLength, UnknownRelation, DigitCount, TooManyDigits, TableBufferTooSmall, TableHeadTooShort, SlotCount, GateCount, TableTooShort, UnknownKind, WrongOperand, ListLength, ValueTooLarge, WorkBufferTooSmall, OutBufferTooSmall, NumberTooLarge, DigitTooLarge, NumberTooWide, ScoreWeight, TotalWeight, LastUseListTooShort}
 
 abbrev pub refusalNumber : Refusal → ℕ
 -- card under 6 bytes
@@ -56,3 +56,5 @@ refusalNumber NumberTooWide = 24
 refusalNumber ScoreWeight = 25
 -- total weight of p or more
 refusalNumber TotalWeight = 26
+-- last-use list shorter than G
+refusalNumber LastUseListTooShort = 27

@@ -5,7 +5,7 @@ ghost use Rattle.answer.specs.Numbers.{refusalNumber};
 ghost use Rattle.answer.specs.Report.{costOf};
 
 // Why an operation turns its input away: one name for each number of document 01, "Operations and
-// what they turn away", and of document 02, E1, in the order of the numbers.
+// what they turn away", and of document 02, E1 and E4, in the order of the numbers.
 pub enum Refusal {
     CardTooShort,
     WrongMark,
@@ -33,6 +33,7 @@ pub enum Refusal {
     NumberTooWide,
     ScoreWeight,
     TotalWeight,
+    LastUseListTooShort,
 }
 
 // The number of a refusal.
@@ -66,6 +67,7 @@ pub fn refusal_number(why: Refusal) -> u8
         Refusal::NumberTooWide => 24,
         Refusal::ScoreWeight => 25,
         Refusal::TotalWeight => 26,
+        Refusal::LastUseListTooShort => 27,
     }
 }
 

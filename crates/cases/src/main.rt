@@ -5,6 +5,7 @@ use coding::Decoded;
 use coding::Encoded;
 use libc::STDIN_FILENO;
 use libc::STDOUT_FILENO;
+use liveness::Listed;
 use runner::Ran;
 use script::Command;
 use script::LIST;
@@ -17,6 +18,9 @@ const SCRIPT: usize = 400000;
 const WORK: usize = 8200;
 
 const DIGITS: usize = 32;
+
+// The use area, in entries of two bytes.
+const USES: usize = 8200;
 
 // Room for any line of a script with its answer.
 const PRINTED: usize = SCRIPT + 256;
@@ -160,6 +164,46 @@ fn run(line: &[u8], table: &[u8], work: &mut [u8], place: usize, out: &mut [u8])
     run_lent(line, table, &mut work[..room], place, out)
 }
 
+fn put_listed(answer: Listed, place: usize, out: &mut [u8]) -> usize {
+    match answer {
+        Listed::Gates(count) => put_named(b"gates ", count as u64, place, out),
+        Listed::Refused(why) => put_refusal(why, place, out),
+    }
+}
+
+// An entry as two bytes, the low one first.
+fn put_entry(entry: u16, place: usize, out: &mut [u8]) -> usize {
+    let end = put_byte((entry % 256) as u8, place, out);
+    put_byte((entry / 256) as u8, end, out)
+}
+
+fn put_entries(list: &[u16], place: usize, out: &mut [u8]) -> usize {
+    let mut end = place;
+    let mut i = 0;
+    while i < list.len() {
+        end = put_entry(list[i], end, out);
+        i += 1;
+    }
+    end
+}
+
+fn put_lent_entries(list: &[u16], place: usize, out: &mut [u8]) -> usize {
+    let mut bytes = [0; 2 * USES];
+    let count = put_entries(list, 0, &mut bytes);
+    let end = script::cut(count, &bytes);
+    put_lent(&bytes[..end], place, out)
+}
+
+fn last_uses_lent(table: &[u8], list: &mut [u16], place: usize, out: &mut [u8]) -> usize {
+    let end = put_listed(liveness::last_uses(table, list), place, out);
+    put_lent_entries(list, end, out)
+}
+
+fn last_uses(line: &[u8], table: &[u8], uses: &mut [u16], place: usize, out: &mut [u8]) -> usize {
+    let room = script::entries_of(script::word(line, 1), uses);
+    last_uses_lent(table, &mut uses[..room], place, out)
+}
+
 fn put_done(answer: Encoded, place: usize, out: &mut [u8]) -> usize {
     match answer {
         Encoded::Done => put(b"done", place, out),
@@ -199,6 +243,7 @@ fn put_answer(
     line: &[u8],
     table: &mut [u8],
     work: &mut [u8],
+    uses: &mut [u16],
     digits: &mut [u8],
     place: usize,
     out: &mut [u8],
@@ -209,6 +254,7 @@ fn put_answer(
         Command::Check => put_report(checker::check(table), place, out),
         Command::Trim => trim(table, place, out),
         Command::Run => run(line, table, work, place, out),
+        Command::LastUses => last_uses(line, table, uses, place, out),
         Command::Encode => encode(line, digits, place, out),
         Command::Decode => decode(line, place, out),
         _ => put(b"malformed", place, out),
@@ -226,12 +272,13 @@ fn print_answer(
     line: &[u8],
     table: &mut [u8],
     work: &mut [u8],
+    uses: &mut [u16],
     digits: &mut [u8],
     out: &mut [u8],
 ) {
     let copied = put(line, 0, out);
     let place = put(b": ", copied, out);
-    let end = put_answer(command, line, table, work, digits, place, out);
+    let end = put_answer(command, line, table, work, uses, digits, place, out);
     let count = put_byte(b'\n', end, out);
     print_first(count, out);
 }
@@ -261,6 +308,7 @@ fn carry_out(
     table: &mut [u8],
     current: usize,
     work: &mut [u8],
+    uses: &mut [u16],
     digits: &mut [u8],
     out: &mut [u8],
 ) -> usize {
@@ -272,7 +320,7 @@ fn carry_out(
         }
         Command::Set => set_byte(line, table),
         Command::Cut => {}
-        _ => print_answer(command, line, &mut table[..next], work, digits, out),
+        _ => print_answer(command, line, &mut table[..next], work, uses, digits, out),
     }
     next
 }
@@ -281,6 +329,7 @@ fn carry_out_lines(
     script: &[u8],
     table: &mut [u8],
     work: &mut [u8],
+    uses: &mut [u16],
     digits: &mut [u8],
     out: &mut [u8],
 ) {
@@ -288,7 +337,7 @@ fn carry_out_lines(
     let mut start = 0;
     while start < script.len() {
         let end = script::find(script, start, b'\n');
-        current = carry_out(&script[start..end], table, current, work, digits, out);
+        current = carry_out(&script[start..end], table, current, work, uses, digits, out);
         start = end + 1;
     }
 }
@@ -296,9 +345,17 @@ fn carry_out_lines(
 fn run_script(script: &[u8]) {
     let mut table = [7; TABLE];
     let mut work = [9; WORK];
+    let mut uses = [9; USES];
     let mut digits = [7; DIGITS];
     let mut out = [0; PRINTED];
-    carry_out_lines(script, &mut table, &mut work, &mut digits, &mut out);
+    carry_out_lines(
+        script,
+        &mut table,
+        &mut work,
+        &mut uses,
+        &mut digits,
+        &mut out,
+    );
 }
 
 fn main() {

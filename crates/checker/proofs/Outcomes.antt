@@ -52,6 +52,9 @@ module _ (bytes : List ℕ) (count : ℕ) (e : gatesRead (reading bytes) ≡ acc
   pub same-count : countOf bytes ≡ count
   same-count = sym (reads bytes (table-read .0) (table-read .1) .count) ∙ table-read .2
 
+  pub count-range : (1 ≤ count) × (count ≤ mostGates)
+  count-range = rw (← same-count) (in-range (countOf bytes) 1 mostGates (reads bytes (table-read .0) (table-read .1) .kept .count))
+
   pub long : 8 * (count + 1) ≤ length bytes
   long = rw (← same-count) (reads bytes (table-read .0) (table-read .1) .kept .room)
 

@@ -12,8 +12,11 @@ pub mod Bytes
 pub mod Bounds
 pub mod Count
 pub mod OldConstants
+pub mod Operands
+pub mod LastUse
 pub mod Promises
 pub mod Unaltered
+pub mod LastUseOutcome
 pub mod Bench
 pub mod RefusalOrder
 pub mod Every

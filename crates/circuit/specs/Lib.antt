@@ -1,4 +1,4 @@
--- To be believed by a reader of the promises: gates and their bytes, the constants of SCALEs, a record's word, what gates mean, what Check, Trim and Run answer, product trees and sums.
+-- To be believed by a reader of the promises: gates and their bytes, the constants of SCALEs, a record's word, what gates mean, which gates a gate reads, what Check, Trim, Run and the last-use list answer, product trees and sums.
 pub mod Bytes
 pub mod Constant
 pub mod Gate
@@ -13,6 +13,9 @@ pub mod OldConstants
 pub mod Reading
 pub mod Word
 pub mod Outcomes
+pub mod Operands
+pub mod LastUse
+pub mod LastUsePromises
 pub mod Every
 pub mod Segment
 pub mod Tree

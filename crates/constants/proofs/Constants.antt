@@ -12,42 +12,16 @@ use native.Mathlib.Decide.{ℕ-discrete}
 use lib.Pow.{pow-add}
 use lib.ListN.{length, take, drop, set, getD, length-append, length-take, length-drop, length-set, drop-of-length-le, List·getD-append, List·getD-map, length-map}
 use lib.Seq.{length-take-le, take-at, drop-cons, drop-set-lt, set-at, getD-at, getD-set-same}
+use Rattle.field.specs.FirstValues.{firstValues}
 use Rattle.field.specs.Sum.{sum, total}
 use Rattle.field.specs.Modular.{residue, mulMod}
 use Rattle.field.specs.Polynomials.{everySecond, orderExponents, orderConstant, orderConstants}
 use Rattle.circuit.specs.Constant.{bitsOf}
-use Rattle.constants.specs.Constants.{firstValues, oneTo, productsMod, powersMod, oddConstants, oddBits}
+use Rattle.constants.specs.Constants.{oneTo, productsMod, powersMod, oddConstants, oddBits}
+use Rattle.field.proofs.FirstValues.{length-first, first-at, first-same, total-first}
 use Rattle.field.proofs.Modular.{mod-same, strip, residue-is, residue-small}
 use Rattle.field.proofs.OrderConstants.{length-second, second-at, constant-odd, constant-last}
 use Rattle.field.proofs.Sum.{sum-cong, total-append}
-
--- ---- first values
-
-pub length-first : (n : ℕ) (f : ℕ → ℕ) → length (firstValues n f) ≡ n
-unfolding firstValues
-length-first zero f = refl
-length-first (suc n) f = length-append (firstValues n f) (f n ∷ []) ∙ omega (arith, length-first n f)
-
-pub first-at : (n : ℕ) (f : ℕ → ℕ) (i : ℕ) → i < n → getD (firstValues n f) i 0 ≡ f i
-unfolding firstValues
-first-at zero f i l = absurd (omega arith)
-first-at (suc n) f i l = go (ℕ-discrete i n) (first-at n f i)
-  where
-    go : Dec (i ≡ n) → (i < n → getD (firstValues n f) i 0 ≡ f i) → getD (firstValues (suc n) f) i 0 ≡ f i
-    go (yes e) before = getD-at (firstValues n f) (f n) [] 0 i (length-first n f ∙ sym e) ∙ ap f (sym e)
-    go (no e) before =
-        List·getD-append (firstValues n f) (f n ∷ []) 0 i (omega (arith, length-first n f)) ∙ before (omega arith)
-
-pub first-same : (n : ℕ) (f g : ℕ → ℕ) → ((i : ℕ) → i < n → f i ≡ g i) → firstValues n f ≡ firstValues n g
-unfolding firstValues
-first-same zero f g h = refl
-first-same (suc n) f g h =
-    ap₂ (λ (l : List ℕ) (x : ℕ). l ++ (x ∷ [])) (first-same n f g (λ i l. h i (omega arith))) (h n (omega arith))
-
-pub total-first : (n : ℕ) (f : ℕ → ℕ) → total (firstValues n f) ≡ sum n f
-unfolding firstValues sum total
-total-first zero f = refl
-total-first (suc n) f = omega (arith, total-append (firstValues n f) (f n ∷ []), total-first n f)
 
 -- ---- filling a list from the front
 

@@ -1,7 +1,8 @@
 -- What the constants of the order polynomial are computed by: lists, entry by entry.
-use Prim.Native.Nat.{ℕ, zero, suc, _/_, _^_}
-use mathlib.Core.List.{List, [], _∷_, _++_, map}
+use Prim.Native.Nat.{ℕ, suc, _/_, _^_}
+use mathlib.Core.List.{List, map}
 use lib.ListN.{length, getD}
+use Rattle.field.specs.FirstValues.{firstValues}
 use Rattle.field.specs.Modular.{residue, mulMod}
 use Rattle.field.specs.Polynomials.{everySecond, orderConstant}
 use Rattle.circuit.specs.Constant.{bitsOf}
@@ -9,11 +10,6 @@ use Rattle.circuit.specs.Constant.{bitsOf}
 -- room for the order constants of any odd p that is a byte: one for each odd exponent below p, and one for p - 1
 abbrev pub mostConstants : ℕ
 mostConstants = 128
-
--- f 0, f 1, .. f (n - 1)
-unfoldable pub firstValues : ℕ → (ℕ → ℕ) → List ℕ
-firstValues zero f = []
-firstValues (suc n) f = firstValues n f ++ (f n ∷ [])
 
 -- 1, 2, .. n
 abbrev pub oneTo : ℕ → List ℕ

@@ -4,6 +4,7 @@ pub mod Primes
 pub mod Modular
 pub mod Bit
 pub mod Sum
+pub mod FirstValues
 pub mod Logarithm
 pub mod Euclid
 pub mod Binomial

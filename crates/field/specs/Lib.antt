@@ -1,4 +1,4 @@
--- To be believed by a reader of the promises: primes, (p-1)/2, how many values a byte has, arithmetic modulo p, logarithms and sums, and the two polynomials that test a digit.
+-- To be believed by a reader of the promises: primes, (p-1)/2, how many values a byte has, arithmetic modulo p, logarithms, sums and lists of first values, and the two polynomials that test a digit.
 -- `PowerSum` stands apart: no promise rests on it.
 pub mod Primes
 pub mod Half
@@ -6,6 +6,7 @@ pub mod Byte
 pub mod Modular
 pub mod Logarithm
 pub mod Sum
+pub mod FirstValues
 pub mod Bit
 pub mod Polynomials
 pub mod Promises

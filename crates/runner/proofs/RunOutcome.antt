@@ -10,19 +10,18 @@ use lib.Dec.{eqb}
 use lib.ListN.{length, drop, getD, List·getD-append}
 use Rattle.answer.specs.Outcome.{refused, accepted, Outcome, unaltered}
 use Rattle.answer.proofs.Outcome.{was-refused}
-use Rattle.field.proofs.Tests.{in-range}
 use Rattle.digits.specs.Number.{allBelow}
 use Rattle.circuit.specs.Gate.{Gate}
 use Rattle.circuit.specs.Meaning.{entries}
 use Rattle.circuit.specs.Outcomes.{running, checking}
-use Rattle.circuit.specs.Reading.{headOf, countOf, reading}
+use Rattle.circuit.specs.Reading.{headOf, reading}
 use Rattle.circuit.specs.Report.{report}
-use Rattle.circuit.specs.Table.{Head, mostGates}
+use Rattle.circuit.specs.Table.{Head}
 use Rattle.circuit.proofs.Meaning.{interpret-length}
 use Rattle.circuit.proofs.Reading.{reads}
 use Rattle.runner.specs.Running.{valuesIn}
 use Rattle.checker.specs.Reporting.{gatesRead}
-use Rattle.checker.proofs.Outcomes.{table-read, same-count, long}
+use Rattle.checker.proofs.Outcomes.{table-read, same-count, count-range, long}
 use Rattle.runner.proofs.Running.{algebra, allRead}
 
 -- ---- a table that Check refuses
@@ -54,7 +53,7 @@ checked bytes count e head slots p same slots-are prime-is =
       read = t .1 ∙ ap (λ (h : Head). accepted (record { head = h; gates = t .0 .gates })) (r .head ∙ sym same);
       all = ap₂ (λ (h : Head) (n : ℕ). allRead h bytes n) same (sym counted) ∙ r .gates;
       size = t .2;
-      some = omega (arith, in-range (countOf bytes) 1 mostGates (r .kept .count), counted);
+      some = count-range bytes count e .0;
       room = long bytes count e;
       slots-are = slots-are;
       prime-is = prime-is;

@@ -15,6 +15,7 @@ pub enum Command {
     Check,
     Trim,
     Run,
+    LastUses,
     Encode,
     Decode,
     Table,
@@ -159,6 +160,18 @@ pub fn room_of(word: &[u8], bytes: &[u8]) -> usize
     cut(number_of(word) as usize, bytes)
 }
 
+// So many of the entries as a word says, or all where there are fewer.
+pub fn entries_of(word: &[u8], list: &[u16]) -> usize
+    ensures { λ r. ⌜ Counts r (now (list .entry)) ⌝ }
+{
+    let count = number_of(word) as usize;
+    if count < list.len() {
+        count
+    } else {
+        list.len()
+    }
+}
+
 fn is_hex(symbol: u8) -> bool {
     match symbol {
         b'0'..=b'9' => true,
@@ -289,6 +302,9 @@ pub fn command_of(line: &[u8]) -> Command {
     }
     if has_form(line, b"run", b"cll") {
         return Command::Run;
+    }
+    if has_form(line, b"last_uses", b"c") {
+        return Command::LastUses;
     }
     if has_form(line, b"encode", b"bcnc") {
         return Command::Encode;

@@ -4,6 +4,7 @@
 use coding::Decoded;
 use coding::Encoded;
 use forecast::forecast;
+use liveness::Listed;
 use runner::Ran;
 use told::put_report;
 ghost use mathlib.Core.Path.{_≡_};
@@ -12,6 +13,7 @@ ghost use lib.ListN.{length, take};
 ghost use Rattle.answer.specs.Outcome.{refusalIn};
 ghost use Rattle.digits.specs.Encoding.{encoding};
 ghost use Rattle.digits.specs.Decoding.{decoding};
+ghost use Rattle.circuit.specs.LastUse.{findingLastUses};
 ghost use Rattle.circuit.specs.Outcomes.{checking, trimming, running};
 ghost use Rattle.query.specs.Outcomes.{building, forecasting};
 ghost use Rattle.told.specs.Told.{isAccepted, numberAfter, gatesAfter, productsAfter, squaresAfter, costAfter, depthAfter};
@@ -96,6 +98,24 @@ pub extern "C" fn staplethread_run(
             0
         }
         Ran::Refused(why) => answer::refusal_number(why),
+    }
+}
+
+// The last-use list: for each gate the number of the last gate that reads it, at the start of the
+// list, and the gate count.
+#[no_mangle]
+pub extern "C" fn staplethread_last_uses(table: &[u8], list: &mut [u16], gates: &mut u16) -> u8
+    ensures status { λ r. ⌜ r ≡ refusalIn (findingLastUses (now (table .entry)) (now (list .entry)) .answer) ⌝ }
+    ensures success { λ r. ⌜ eqb r 0 ≡ isAccepted (findingLastUses (now (table .entry)) (now (list .entry)) .answer) ⌝ }
+    ensures leaves { λ _. ⌜ now (list .exit) ≡ findingLastUses (now (table .entry)) (now (list .entry)) .lent ⌝ }
+    ensures told { λ _. ⌜ now (gates .exit) ≡ numberAfter (now (gates .entry)) (findingLastUses (now (table .entry)) (now (list .entry)) .answer) ⌝ }
+{
+    match liveness::last_uses(table, list) {
+        Listed::Gates(count) => {
+            *gates = count;
+            0
+        }
+        Listed::Refused(why) => answer::refusal_number(why),
     }
 }
 

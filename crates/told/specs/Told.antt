@@ -16,7 +16,7 @@ abbrev pub after : {A : Type 0} → (A → ℕ) → ℕ → Answer A → ℕ
 after value held (refused number) = held
 after value held (accepted a) = value a
 
--- the number that Decode answers, and the output that Run does
+-- the number that Decode answers, the output that Run does, and the gate count that the last-use list does
 abbrev pub numberAfter : ℕ → Answer ℕ → ℕ
 numberAfter = after (λ x. x)
 

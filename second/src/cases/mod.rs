@@ -3,6 +3,7 @@
 mod cards;
 mod coding;
 mod constants;
+mod last_uses;
 mod relations;
 mod runs;
 mod score_cards;
@@ -38,5 +39,6 @@ pub fn cases() -> String {
     score_runs::write(&mut script);
     words::write(&mut script);
     constants::write(&mut script);
+    last_uses::write(&mut script);
     script.finish()
 }

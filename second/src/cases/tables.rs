@@ -355,7 +355,8 @@ fn drawn_tables(script: &mut Script) {
     }
 }
 
-fn draw_gates(random: &mut Random, p: u8, slots: u8) -> Vec<Gate> {
+/// Gates of all kinds after a LEFT, 4 to 19 in all.
+pub fn draw_gates(random: &mut Random, p: u8, slots: u8) -> Vec<Gate> {
     let mut gates = vec![gate(Kind::Left, 0, 0)];
     for number in 1..4 + random.below(16) {
         let slot = u16::from(random.byte_below(slots));

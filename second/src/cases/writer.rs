@@ -55,6 +55,10 @@ impl Script {
         self.line(format_args!("run {room} {} {}", hex(left), hex(right)));
     }
 
+    pub fn last_uses(&mut self, room: usize) {
+        self.line(format_args!("last_uses {room}"));
+    }
+
     pub fn encode(&mut self, p: u8, n: usize, number: u64, room: usize) {
         self.line(format_args!("encode {p} {n} {number} {room}"));
     }

@@ -5,8 +5,9 @@ use native.Mathlib.Omega.{arith}
 use borrow.Author.Needs.{needs}
 use lib.ListN.{length}
 use Rattle.field.specs.Modular.{residue}
+use Rattle.field.proofs.FirstValues.{length-first}
 use Rattle.circuit.specs.Constant.{bitsOf}
-use Rattle.constants.proofs.Constants.{Descending, descend-begin, length-powers, length-first, descend-one, descended}
+use Rattle.constants.proofs.Constants.{Descending, descend-begin, length-powers, descend-one, descended}
 use Rattle.constants.proofs.put_odd_constants.Statement.{statement}
 use Rattle.constants.proofs.put_odd_constants.Tie as tie
 

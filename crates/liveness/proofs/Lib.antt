@@ -1,0 +1,3 @@
+-- Laws of the last-use list.
+pub mod Entering
+pub mod Outcome
