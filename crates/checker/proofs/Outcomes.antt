@@ -55,6 +55,10 @@ module _ (bytes : List ℕ) (count : ℕ) (e : gatesRead (reading bytes) ≡ acc
   pub count-range : (1 ≤ count) × (count ≤ mostGates)
   count-range = rw (← same-count) (in-range (countOf bytes) 1 mostGates (reads bytes (table-read .0) (table-read .1) .kept .count))
 
+  pub gates-read : readGates (headOf bytes) 0 count (drop 8 bytes) ≡ accepted (table-read .0 .gates)
+  gates-read =
+      ap (λ (n : ℕ). readGates (headOf bytes) 0 n (drop 8 bytes)) (sym same-count) ∙ reads bytes (table-read .0) (table-read .1) .gates
+
   pub long : 8 * (count + 1) ≤ length bytes
   long = rw (← same-count) (reads bytes (table-read .0) (table-read .1) .kept .room)
 

@@ -54,11 +54,11 @@ values-below p left right gates some lefts rights = interpret-below p left right
 pub depth-below : (E : ℕ → ℕ) (k : ℕ) → ((i : ℕ) → i < k → E i ≤ i) → (g : Gate) → Named k g → meaning depths E g ≤ k
 depth-below E k low (Left a) n = zero-le
 depth-below E k low (Right a) n = zero-le
-depth-below E k low (Add a b) n = omega (arith, low a (n .0), low b (n .1))
-depth-below E k low (Sub a b) n = omega (arith, low a (n .0), low b (n .1))
-depth-below E k low (Scale a c) n = omega (arith, low a n)
-depth-below E k low (Flip a) n = omega (arith, low a n)
-depth-below E k low (Mul a b) n = omega (arith, low a (n .0), low b (n .1))
+depth-below E k low (Add a b) n = omega (arith, low a (n .0), low b (n .1 .0))
+depth-below E k low (Sub a b) n = omega (arith, low a (n .0), low b (n .1 .0))
+depth-below E k low (Scale a c) n = omega (arith, low a (n .0))
+depth-below E k low (Flip a) n = omega (arith, low a (n .0))
+depth-below E k low (Mul a b) n = omega (arith, low a (n .0), low b (n .1 .0))
 
 -- one gate more
 low-suc : (E : ℕ → ℕ) (k : ℕ) → ((i : ℕ) → i < k → E i ≤ i) → E k ≤ k → (i : ℕ) → i < suc k → E i ≤ i

@@ -12,18 +12,14 @@ use lib.Dec.{ltb}
 use lib.ListN.{length}
 use Rattle.field.proofs.Tests.{both}
 use Rattle.circuit.specs.Constant.{isConstant}
+use Rattle.circuit.specs.Every.{Every}
 use Rattle.circuit.specs.Gate.{Gate, Left, Right, Add, Sub, Scale, Flip, Mul}
+use Rattle.circuit.specs.Operands.{operands}
 use Rattle.circuit.specs.Table.{Head, leftSlots, rightSlots, fits, allFit}
 
 -- gate number k names only lower gates
 abbrev pub Named : ℕ → Gate → Type 0
-Named k (Left a) = Unit {0}
-Named k (Right a) = Unit {0}
-Named k (Add a b) = (a < k) × (b < k)
-Named k (Sub a b) = (a < k) × (b < k)
-Named k (Scale a c) = a < k
-Named k (Flip a) = a < k
-Named k (Mul a b) = (a < k) × (b < k)
+Named k g = Every (λ (i : ℕ). i < k) (operands g)
 
 -- gates of which the first has number k
 abbrev pub AllNamed : ℕ → List Gate → Type 0
@@ -33,14 +29,17 @@ AllNamed k (g ∷ gs) = Named k g × AllNamed (suc k) gs
 pub two-below : (a b k : ℕ) → (ltb a k && ltb b k) ≡ true → (a < k) × (b < k)
 two-below a b k t = let s = both (ltb a k) (ltb b k) t in (ltb-true a k (s .0), ltb-true b k (s .1))
 
+two-named : (a b k : ℕ) → (ltb a k && ltb b k) ≡ true → Every (λ (i : ℕ). i < k) (a ∷ b ∷ [])
+two-named a b k t = let s = two-below a b k t in (s .0, (s .1, tt))
+
 pub named : (head : Head) (k : ℕ) (g : Gate) → fits head k g ≡ true → Named k g
 named head k (Left a) t = tt
 named head k (Right a) t = tt
-named head k (Add a b) t = two-below a b k t
-named head k (Sub a b) t = two-below a b k t
-named head k (Scale a c) t = ltb-true a k (both (ltb a k) (isConstant (head .prime) c) t .0)
-named head k (Flip a) t = ltb-true a k t
-named head k (Mul a b) t = two-below a b k t
+named head k (Add a b) t = two-named a b k t
+named head k (Sub a b) t = two-named a b k t
+named head k (Scale a c) t = (ltb-true a k (both (ltb a k) (isConstant (head .prime) c) t .0), tt)
+named head k (Flip a) t = (ltb-true a k t, tt)
+named head k (Mul a b) t = two-named a b k t
 
 pub fit-cons : (head : Head) (k : ℕ) (g : Gate) (gs : List Gate) → allFit head k (g ∷ gs) ≡ true
     → (fits head k g ≡ true) × (allFit head (suc k) gs ≡ true)

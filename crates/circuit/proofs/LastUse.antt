@@ -7,17 +7,22 @@ use mathlib.Core.Bool.{Bool, true, false, false≢true}
 use mathlib.Core.List.{List, [], _∷_, _++_}
 use Prim.Native.Nat.{ℕ, zero, suc, _+_, _-_, _≤_, _<_}
 use native.Mathlib.Omega.{arith}
+use native.Mathlib.Nat.{add-zero}
 use lib.ListN.{length, getD, List·getD-append}
 use Rattle.field.specs.FirstValues.{firstValues}
 use Rattle.field.proofs.FirstValues.{length-first, first-at}
 use Rattle.circuit.specs.Gate.{Gate}
 use Rattle.circuit.specs.LastUse.{IsLastUse, read, unread, lastReader, lastUse, lastUses}
-use Rattle.circuit.specs.LastUsePromises.{LastUseIs, OneForEach, EntriesAreGates, OutputStays, Safe, NoLaterRead, NoneEarlier}
-use Rattle.circuit.specs.Operands.{reads, GateIs, Reads}
+use Rattle.circuit.specs.LastUsePromises.{LastUseIs, OneForEach, EntriesAreGates, OutputStays, NoLaterRead, NoneEarlier}
+use Rattle.circuit.specs.Operands.{reads, Reads}
 use Rattle.circuit.proofs.Fitting.{AllNamed, all-named}
 use Rattle.circuit.proofs.Operands.{gate-below, read-before}
 
 -- ---- the last reader
+
+-- a number where a test holds, and otherwise another
+abbrev pub orElse : Bool → ℕ → ℕ → ℕ
+orElse test number other = elim test [ true ↦ number | false ↦ other ]
 
 -- a last reader of gate i among gates of which the first has number k, or a number given and no reader
 abbrev Found : ℕ → ℕ → ℕ → List Gate → ℕ → Type 0
@@ -36,8 +41,8 @@ found i other k (g ∷ gs) = go (reads i g) refl (found i _ (suc k) gs)
     before : (m : ℕ) → Reads gs m i → Reads (g ∷ gs) (suc m) i
     before m r = record { gate = r .gate; is = r .is; does = r .does }
 
-    go : (t : Bool) → reads i g ≡ t → Found i (elim t [ true ↦ k | false ↦ other ]) (suc k) gs (lastReader i (elim t [ true ↦ k | false ↦ other ]) (suc k) gs)
-        → Found i other k (g ∷ gs) (lastReader i (elim t [ true ↦ k | false ↦ other ]) (suc k) gs)
+    go : (t : Bool) → reads i g ≡ t → Found i (orElse t k other) (suc k) gs (lastReader i (orElse t k other) (suc k) gs)
+        → Found i other k (g ∷ gs) (lastReader i (orElse t k other) (suc k) gs)
     go t e (inl (j, is, r, most)) = inl (suc j, omega (arith, is), before j r, each)
       where
         each : (m : ℕ) → Reads (g ∷ gs) m i → m ≤ suc j
@@ -51,8 +56,17 @@ found i other k (g ∷ gs) = go (reads i g) refl (found i _ (suc k) gs)
     go false e (inr (is, none)) = inr (is, each)
       where
         each : (m : ℕ) → Reads (g ∷ gs) m i → ⊥
-        each zero s = false≢true (sym e ∙ (rw (s .is) (s .does)))
+        each zero s = false≢true (sym e ∙ rw (s .is) (s .does))
         each (suc m) s = none m (after m s)
+
+-- one gate more, which reads gate i or leaves its last reader as it was
+pub one-more-gate : (i other k : ℕ) (gs : List Gate) (g : Gate)
+    → lastReader i other k (gs ++ (g ∷ [])) ≡ orElse (reads i g) (k + length gs) (lastReader i other k gs)
+unfolding lastReader
+one-more-gate i other k [] g = rw (add-zero k)
+one-more-gate i other k (h ∷ hs) g =
+    let same : suc k + length hs ≡ k + suc (length hs) = omega arith in
+    one-more-gate i (orElse (reads i h) k other) (suc k) hs g ∙ rw same
 
 -- of a whole list
 abbrev Use : List Gate → ℕ → ℕ → Type 0
@@ -98,17 +112,17 @@ none-earlier gates list safe i l = rw (one-for-each gates .1 i l) (go (use-of ga
     go (inl (j, is, r, most)) = omega (arith, is, safe .kept j i r)
     go (inr (is, none)) = omega (arith, is, safe .there i l)
 
+-- no gate reads another after its last use
+late : (gates : List Gate) (k i : ℕ) → Reads gates k i → k ≤ lastUse gates i
+late gates k i r = go (use-of gates i)
+  where
+    go : {u : ℕ} → Use gates i u → k ≤ u
+    go (inl (j, is, s, most)) = omega (arith, is, most k r)
+    go (inr (is, none)) = absurd (none k r)
+
 -- ---- of gates that keep the rules
 
 module _ (gates : List Gate) (n : AllNamed 0 gates) where
-  -- an entry is no less than each reader, and than the gate's own number
-  late : (k i : ℕ) → Reads gates k i → k ≤ lastUse gates i
-  late k i r = go (use-of gates i)
-    where
-      go : {u : ℕ} → Use gates i u → k ≤ u
-      go (inl (j, is, s, most)) = omega (arith, is, most k r)
-      go (inr (is, none)) = absurd (none k r)
-
   own : (i : ℕ) → i ≤ lastUse gates i
   own i = go (use-of gates i)
     where
@@ -128,7 +142,7 @@ pub no-later-read : NoLaterRead
 no-later-read head gates later t =
     let n = all-named head 0 gates t in
     record {
-      kept = λ k i r. rw (entry gates later i (omega (arith, read-before gates k i n r))) (late gates n k i r);
+      kept = λ k i r. rw (entry gates later i (omega (arith, read-before gates k i n r))) (late gates k i r);
       there = λ i l. rw (entry gates later i l) (own gates n i);
     }
 

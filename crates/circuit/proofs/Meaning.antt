@@ -60,11 +60,11 @@ module _ {A : Type 0} (alg : Algebra A) where
   meaning-same : (E F : ℕ → A) (k : ℕ) → ((i : ℕ) → i < k → E i ≡ F i) → (g : Gate) → Named k g → meaning alg E g ≡ meaning alg F g
   meaning-same E F k h (Left a) n = refl
   meaning-same E F k h (Right a) n = refl
-  meaning-same E F k h (Add a b) n = ap₂ (alg .add) (h a (n .0)) (h b (n .1))
-  meaning-same E F k h (Sub a b) n = ap₂ (alg .sub) (h a (n .0)) (h b (n .1))
-  meaning-same E F k h (Scale a c) n = ap (λ x. alg .scale x c) (h a n)
-  meaning-same E F k h (Flip a) n = ap (alg .flip) (h a n)
-  meaning-same E F k h (Mul a b) n = ap₂ (alg .mul) (h a (n .0)) (h b (n .1))
+  meaning-same E F k h (Add a b) n = ap₂ (alg .add) (h a (n .0)) (h b (n .1 .0))
+  meaning-same E F k h (Sub a b) n = ap₂ (alg .sub) (h a (n .0)) (h b (n .1 .0))
+  meaning-same E F k h (Scale a c) n = ap (λ x. alg .scale x c) (h a (n .0))
+  meaning-same E F k h (Flip a) n = ap (alg .flip) (h a (n .0))
+  meaning-same E F k h (Mul a b) n = ap₂ (alg .mul) (h a (n .0)) (h b (n .1 .0))
 
   pub solved : (gs : List Gate) (earlier : List A) (k : ℕ) → length earlier ≡ k → AllNamed k gs
       → Solves alg (entryOf alg (interpret alg earlier gs)) k gs

@@ -6,25 +6,15 @@ use mathlib.Core.List.{List, [], _∷_}
 use Prim.Native.Nat.{ℕ, zero, suc, _+_, _<_}
 use native.Mathlib.Omega.{arith}
 use lib.ListN.{length}
-use Rattle.circuit.specs.Every.{Every}
-use Rattle.circuit.specs.Gate.{Gate, Left, Right, Add, Sub, Scale, Flip, Mul}
+use Rattle.circuit.specs.Gate.{Gate}
 use Rattle.circuit.specs.Operands.{operands, reads, GateIs, Reads}
 use Rattle.circuit.proofs.Every.{every-member}
 use Rattle.circuit.proofs.Fitting.{Named, AllNamed}
 
 -- ---- one gate
 
-pub named-operands : (k : ℕ) (g : Gate) → Named k g → Every (λ (i : ℕ). i < k) (operands g)
-named-operands k (Left a) n = tt
-named-operands k (Right a) n = tt
-named-operands k (Add a b) n = (n .0, (n .1, tt))
-named-operands k (Sub a b) n = (n .0, (n .1, tt))
-named-operands k (Scale a c) n = (n, tt)
-named-operands k (Flip a) n = (n, tt)
-named-operands k (Mul a b) n = (n .0, (n .1, tt))
-
 pub reads-lower : (i k : ℕ) (g : Gate) → Named k g → reads i g ≡ true → i < k
-reads-lower i k g n t = every-member (λ (j : ℕ). j < k) i (operands g) (named-operands k g n) t
+reads-lower i k g n t = every-member (λ (j : ℕ). j < k) i (operands g) n t
 
 -- ---- the gates of a list
 

@@ -36,7 +36,8 @@ unfolding multiply
 multiply-named zero k factors e h = tt
 multiply-named (suc n) k factors e h =
     let pair = pair-is n factors e in
-    (pair .named k h, multiply-named n (suc k) (next k factors) (next-length n k factors e) (pair .order k h))
+    let low = pair .named k h in
+    ((low .0, (low .1, tt)), multiply-named n (suc k) (next k factors) (next-length n k factors e) (pair .order k h))
 
 tree-named : (k : ℕ) (factors : List Node) → 1 ≤ length factors → InOrder 0 k factors → AllNamed k (productTree k factors .gates)
 tree-named k factors some h = multiply-named (length factors - 1) k factors (omega arith) h

@@ -7,8 +7,8 @@ use lib.ListN.{length, drop}
 use Rattle.answer.specs.Outcome.{accepted, Outcome, unaltered, refuse, onAnswer}
 use Rattle.field.specs.FirstValues.{firstValues}
 use Rattle.circuit.specs.Gate.{Gate}
-use Rattle.circuit.specs.Reading.{reading}
 use Rattle.circuit.specs.Operands.{reads, Reads}
+use Rattle.circuit.specs.Reading.{reading}
 use Rattle.circuit.specs.Table.{Table}
 
 -- what the entry of gate number i has to be
@@ -23,6 +23,7 @@ unfoldable pub lastReader : ℕ → ℕ → ℕ → List Gate → ℕ
 lastReader i other k [] = other
 lastReader i other k (g ∷ gs) = lastReader i (elim (reads i g) [ true ↦ k | false ↦ other ]) (suc k) gs
 
+-- of all gates, with gate i's own number where none reads it
 abbrev pub lastUse : List Gate → ℕ → ℕ
 lastUse gates i = lastReader i i 0 gates
 

@@ -9,8 +9,8 @@ use lib.ListN.{length, drop, getD}
 use Rattle.answer.specs.Outcome.{refused, accepted, unaltered, Keeps}
 use Rattle.circuit.specs.Gate.{Gate}
 use Rattle.circuit.specs.LastUse.{IsLastUse, lastUse, lastUses, findingLastUses}
-use Rattle.circuit.specs.Outcomes.{checking}
 use Rattle.circuit.specs.Operands.{Reads}
+use Rattle.circuit.specs.Outcomes.{checking}
 use Rattle.circuit.specs.Reading.{reading}
 use Rattle.circuit.specs.Table.{Head, Table, tableBytes, allFit, wellFormed}
 
@@ -76,10 +76,11 @@ abbrev pub LastUsesKeep : Type 0
 LastUsesKeep = (bytes list : List ℕ) → Keeps list (findingLastUses bytes list)
 
 -- whatever the bytes and the list, where the answer is G: the bytes are read as a table of G gates, by the list that is left no gate of it is read after its
--- release, and no safe list releases any gate earlier
+-- release, no safe list releases any gate earlier, and the output's entry is its own number
 abbrev pub LeftIsBest : Type 0
 LeftIsBest =
     (bytes list : List ℕ) (count : ℕ) → findingLastUses bytes list .answer ≡ accepted count
     → let left : List ℕ = findingLastUses bytes list .lent in
     (table : Table) × (reading bytes ≡ accepted table) × (length (table .gates) ≡ count) × Safe (table .gates) left
     × ((other : List ℕ) → Safe (table .gates) other → (i : ℕ) → i < count → getD left i 0 ≤ getD other i 0)
+    × (getD left (count - 1) 0 ≡ count - 1)

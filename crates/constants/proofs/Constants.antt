@@ -8,9 +8,8 @@ use Prim.Native.Nat.{ℕ, zero, suc, _+_, _-_, _*_, _/_, _%_, _^_, _≤_, _<_}
 use native.Mathlib.Omega.{arith}
 use native.Mathlib.Numerals.{add-one, sub-one}
 use native.Mathlib.Nat.{mod-mod, pow-zero, pow-succ'}
-use native.Mathlib.Decide.{ℕ-discrete}
 use lib.Pow.{pow-add}
-use lib.ListN.{length, take, drop, set, getD, length-append, length-take, length-drop, length-set, drop-of-length-le, List·getD-append, List·getD-map, length-map}
+use lib.ListN.{length, take, drop, set, getD, length-append, length-take, length-drop, length-set, drop-of-length-le, List·getD-map, length-map}
 use lib.Seq.{length-take-le, take-at, drop-cons, drop-set-lt, set-at, getD-at, getD-set-same}
 use Rattle.field.specs.FirstValues.{firstValues}
 use Rattle.field.specs.Sum.{sum, total}
@@ -21,7 +20,7 @@ use Rattle.constants.specs.Constants.{oneTo, productsMod, powersMod, odd
 use Rattle.field.proofs.FirstValues.{length-first, first-at, first-same, total-first}
 use Rattle.field.proofs.Modular.{mod-same, strip, residue-is, residue-small}
 use Rattle.field.proofs.OrderConstants.{length-second, second-at, constant-odd, constant-last}
-use Rattle.field.proofs.Sum.{sum-cong, total-append}
+use Rattle.field.proofs.Sum.{sum-cong}
 
 -- ---- filling a list from the front
 

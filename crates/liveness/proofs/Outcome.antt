@@ -7,7 +7,7 @@ use Prim.Native.Nat.{ℕ, _≤_, _<_}
 use borrow.Author.Tests.{lt-ltb, le-ltb}
 use lib.Dec.{ltb}
 use lib.ListN.{length, drop}
-use Rattle.answer.specs.Outcome.{accepted, Outcome, unaltered}
+use Rattle.answer.specs.Outcome.{accepted, unaltered}
 use Rattle.circuit.specs.LastUse.{lastUses, findingLastUses}
 use Rattle.circuit.specs.Reading.{reading}
 use Rattle.checker.specs.Reporting.{gatesRead}

@@ -21,7 +21,7 @@ use Rattle.circuit.proofs.Meaning.{interpret-length}
 use Rattle.circuit.proofs.Reading.{reads}
 use Rattle.runner.specs.Running.{valuesIn}
 use Rattle.checker.specs.Reporting.{gatesRead}
-use Rattle.checker.proofs.Outcomes.{table-read, same-count, count-range, long}
+use Rattle.checker.proofs.Outcomes.{table-read, count-range, gates-read, long}
 use Rattle.runner.proofs.Running.{algebra, allRead}
 
 -- ---- a table that Check refuses
@@ -46,12 +46,11 @@ pub checked : (bytes : List ℕ) (count : ℕ) → gatesRead (reading bytes) ≡
     → slots ≡ head .slots → p ≡ head .prime → Checked bytes head count slots p
 checked bytes count e head slots p same slots-are prime-is =
     let t = table-read bytes count e in
-    let counted = same-count bytes count e in
     let r = reads bytes (t .0) (t .1) in
     record {
       gates = t .0 .gates;
       read = t .1 ∙ ap (λ (h : Head). accepted (record { head = h; gates = t .0 .gates })) (r .head ∙ sym same);
-      all = ap₂ (λ (h : Head) (n : ℕ). allRead h bytes n) same (sym counted) ∙ r .gates;
+      all = ap (λ (h : Head). allRead h bytes count) same ∙ gates-read bytes count e;
       size = t .2;
       some = count-range bytes count e .0;
       room = long bytes count e;

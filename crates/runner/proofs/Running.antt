@@ -15,10 +15,8 @@ use Rattle.circuit.specs.Meaning.{Algebra, meaning, entryOf, interpret}
 use Rattle.circuit.specs.Reading.{readGate, readGates}
 use Rattle.circuit.specs.Table.{Head, leftSlots, rightSlots}
 use Rattle.circuit.specs.Value.{values}
-use Rattle.circuit.proofs.Reading.{gates-cons}
 use Rattle.runner.specs.Running.{CanRun, valueIn, valuesIn}
-use Rattle.circuit.proofs.Records.{one-less}
-use Rattle.records.proofs.Records.{recordAt, lentAt, lent-is, next-record}
+use Rattle.records.proofs.Records.{recordAt, lentAt, lent-is, next-gate}
 
 abbrev pub algebra : Head → List ℕ → List ℕ → Algebra ℕ
 algebra head left right = values (head .prime) left right
@@ -57,25 +55,21 @@ module _ {head : Head} {table : List ℕ} {count : ℕ} {left right work₀ work
 
   module _ (less : k < count) (room : count ≤ length work₀) where
     -- the next gate, and the later ones
-    next : (g : Gate) × (later : List Gate) × (u .rest ≡ g ∷ later) × (gateRead head table work k ≡ accepted g)
+    next : (g : Gate) × (later : List Gate) × (u .rest ≡ g ∷ later) × (readGate head k (recordAt table k) ≡ accepted g)
         × (readGates head (k + 1) (count - (k + 1)) (recordAt table (k + 1)) ≡ accepted later)
-    next =
-        let s = gates-cons head k (count - (k + 1)) (recordAt table k) (u .rest) (rw (one-less count k less) at (u .read)) in (
-          s .0,
-          s .1,
-          s .2,
-          ap₂ (readGate head) (length-take-le k work (omega (arith, u .size))) (lent-is table k) ∙ s .3,
-          ap₂ (λ (j : ℕ) (l : List ℕ). readGates head j (count - (k + 1)) l) (add-one k) (next-record table k) ∙ s .4,
-        )
+    next = next-gate head table count k (u .rest) less (u .read)
+
+    next-read : gateRead head table work k ≡ accepted (next .0)
+    next-read = ap₂ (readGate head) (length-take-le k work (omega (arith, u .size))) (lent-is table k) ∙ next .3
 
     pub gate-ready : length left ≡ leftSlots head → length right ≡ rightSlots head → CanRun head left right (gateRead head table work k)
-    gate-ready l r = record { value = next .0; accept = next .3; lefts = l; rights = r }
+    gate-ready l r = record { value = next .0; accept = next-read; lefts = l; rights = r }
 
     pub turn : (value : ℕ) → value ≡ valueIn alg (take k work) (gateRead head table work k)
         → Underway head table count left right work₀ (set work k value) (k + 1)
     unfolding interpret
     turn value e =
-        let same : value ≡ meaning alg (entryOf alg (take k work)) (next .0) = e ∙ ap (valueIn alg (take k work)) (next .3) in
+        let same : value ≡ meaning alg (entryOf alg (take k work)) (next .0) = e ∙ ap (valueIn alg (take k work)) next-read in
         let more : take (k + 1) (set work k value) ≡ take k work ++ (value ∷ [])
         = rw add-one (take-suc-set work k value (omega (arith, u .size))) in
         record {

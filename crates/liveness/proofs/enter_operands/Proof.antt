@@ -1,13 +1,12 @@
 -- `liveness::enter_operands` meets its contract: as many operands as the kind has are entered, one store for each.
 -- Assumes nothing.
-use mathlib.Core.List.{List, [], _∷_}
-use mathlib.Core.Path.{_≡_, ap}
+use mathlib.Core.List.{List}
+use mathlib.Core.Path.{ap}
 use Prim.Native.Nat.{ℕ}
 use borrow.Author.Needs.{needs}
-use lib.ListN.{take, length-set}
-use Rattle.circuit.specs.Bytes.{byte}
-use Rattle.liveness.specs.Entering.{operandsOf, entered}
-use Rattle.liveness.proofs.Entering.{none, one, two, first-below, second-below}
+use lib.ListN.{length-set}
+use Rattle.liveness.specs.Entering.{entered}
+use Rattle.liveness.proofs.Operands.{none, one, two, first-below, second-below}
 use Rattle.liveness.proofs.enter_operands.Statement.{statement}
 use Rattle.liveness.proofs.enter_operands.Tie as tie
 
