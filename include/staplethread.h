@@ -3,9 +3,10 @@
  * The rules are those of document 01, "The query builder and its exact rules", and of scored queries,
  * of constants near zero and of last-use lists those of document 02.
  *
- * A list is a pointer, then its length in entries, which for bytes are bytes. Pointers are not null,
- * not even those of empty lists. What a call writes overlaps nothing else that is lent to it. Nothing
- * is kept after a call, nothing is allocated, and calls on separate buffers may run at the same time.
+ * A list is a pointer, then its length: in bytes, or of a last-use list in entries of two bytes.
+ * Pointers are not null, not even those of empty lists. What a call writes overlaps nothing else that
+ * is lent to it. Nothing is kept after a call, nothing is allocated, and calls on separate buffers may
+ * run at the same time.
  *
  * Every operation but Trim answers 0 on success, or the number of its refusal. A refusal leaves
  * every lent byte, entry and number unaltered. Where several rules are broken, the number is that of
@@ -144,11 +145,11 @@ uint8_t staplethread_run(const uint8_t *table, size_t table_length,
                          uint8_t *output);
 
 /* The last-use list of a table: entry i of its first G entries becomes the number of the last gate
- * that reads gate i, or i where none does; later entries are kept; gates is G. No gate is read after
- * the one that its entry names, and no list of which that is so has an earlier entry. The output is
- * the last gate, G-1, and has its own number. A runner that has carried gate k out lets go of each
- * gate that it read whose entry is k, and of gate k itself where its own entry is k, unless it is
- * the output.
+ * that reads gate i, or i where none does; later entries are kept; gates is G. The output is the last
+ * gate, G-1, and has its own number. A runner that has carried gate k out lets go of each gate that
+ * it read whose entry is k, and of gate k itself where its own entry is k, unless it is the output.
+ * So no gate is read after it was let go, and no list by which that is so, and by which none is let
+ * go before it is there, has an earlier entry.
  * Refuses as Check does, then
  * 27  list under G entries */
 uint8_t staplethread_last_uses(const uint8_t *table, size_t table_length,

@@ -179,7 +179,8 @@ pub fn run(table: &[u8], left: &[u8], right: &[u8], work: &mut [u8]) -> Result<u
 
 /// For each gate the number of the last gate that reads it, or its own number where none does, at
 /// the start of `list`; the answer is the gate count. By that list no gate is read after its
-/// release, and no list by which that is so releases any gate earlier.
+/// release, and no list by which that is so, and by which none is released before it is there,
+/// releases any gate earlier.
 ///
 /// A runner that has carried gate k out lets go of each gate that it read whose entry is k, and of
 /// gate k itself where its own entry is k, unless it is the last one, the output.
