@@ -2,7 +2,8 @@
 ghost use mathlib.Core.Path.{_≡_};
 ghost use Prim.Native.Nat.{_<_};
 ghost use Rattle.field.specs.Byte.{byteValues};
-ghost use Rattle.field.specs.Primes.{primes, member, listed};
+ghost use Rattle.field.specs.Member.{member};
+ghost use Rattle.field.specs.Primes.{primes, listed};
 ghost use Rattle.field.specs.Modular.{residue, addMod, subMod, mulMod};
 ghost use Rattle.field.specs.Logarithm.{flog, clog};
 

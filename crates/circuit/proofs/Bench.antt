@@ -2,7 +2,8 @@
 -- Assumes nothing.
 use mathlib.Core.Path.{refl}
 use Rattle.field.specs.Modular.{residue}
-use Rattle.field.specs.Primes.{member, primes, listed}
+use Rattle.field.specs.Member.{member}
+use Rattle.field.specs.Primes.{primes, listed}
 use Rattle.digits.specs.Number.{allBelow}
 use Rattle.circuit.specs.Bench.{BenchReports, BenchOutputs, BenchRun}
 use Rattle.circuit.specs.Constant.{signed}

@@ -1,13 +1,13 @@
 -- Laws of facts of every entry of a list: from one fact to another, of lists put together, equal entries one by one, and of each number that stands in a list.
 -- Assumes nothing.
 use mathlib.Core.Path.{_≡_, refl, ap₂, subst}
-use mathlib.Core.Bool.{Bool, true, false, _||_, false≢true}
+use mathlib.Core.Bool.{true, false≢true}
+use mathlib.Core.Logic.{⊎-elim}
 use mathlib.Core.List.{List, [], _∷_, _++_, map}
 use Prim.Native.Nat.{ℕ, zero, suc}
-use borrow.Author.Tests.{eqb-true}
-use lib.Dec.{eqb}
 use lib.ListN.{drop}
-use Rattle.field.specs.Primes.{member}
+use Rattle.field.specs.Member.{member}
+use Rattle.field.proofs.Member.{member-cons}
 use Rattle.circuit.specs.Every.{Every}
 
 module _ {X : Type 0} where
@@ -45,8 +45,5 @@ module _ {X : Type 0} where
 pub every-member : (P : ℕ → Type 0) (i : ℕ) (xs : List ℕ) → Every P xs → member i xs ≡ true → P i
 unfolding member
 every-member P i [] h t = absurd (false≢true t)
-every-member P i (x ∷ xs) h t = go (eqb x i) refl t (every-member P i xs (h .1))
-  where
-    go : (same : Bool) → eqb x i ≡ same → (same || member i xs) ≡ true → (member i xs ≡ true → P i) → P i
-    go true e u later = subst P (eqb-true x i e) (h .0)
-    go false e u later = later u
+every-member P i (x ∷ xs) h t =
+    ⊎-elim (λ e. subst P e (h .0)) (λ u. every-member P i xs (h .1) u) (member-cons i x xs t)

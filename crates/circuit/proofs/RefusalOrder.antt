@@ -1,7 +1,8 @@
 -- Refusals come in the order of document 01, by computing the definitions.
 -- Assumes nothing.
 use mathlib.Core.Path.{refl}
-use Rattle.field.specs.Primes.{member, primes, listed}
+use Rattle.field.specs.Member.{member}
+use Rattle.field.specs.Primes.{primes, listed}
 use Rattle.digits.specs.Number.{allBelow}
 use Rattle.circuit.specs.Constant.{signed}
 use Rattle.circuit.specs.Reading.{readGates}

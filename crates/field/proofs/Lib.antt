@@ -1,5 +1,6 @@
 -- Laws that other crates cite.
 pub mod Tests
+pub mod Member
 pub mod Primes
 pub mod Modular
 pub mod Bit

@@ -3,17 +3,19 @@
 -- That the code's array is this very list is one computed test, in `proofs/listed_primes`.
 -- Assumes nothing.
 use mathlib.Core.Path.{_≡_, refl, subst}
-use mathlib.Core.Bool.{Bool, true, false, not, _||_, false≢true, or-true}
-use mathlib.Core.List.{List, _∷_}
-use mathlib.Core.Logic.{_≢_, _⊎_, inl, inr, ⊎-elim}
+use mathlib.Core.Bool.{Bool, true, false, not, false≢true, or-true}
+use mathlib.Core.List.{List}
+use mathlib.Core.Logic.{_≢_, _⊎_, ⊎-elim}
 use Prim.Native.Nat.{ℕ, zero, suc, _+_, _-_, _%_, _≤_, _<_}
 use native.Mathlib.Omega.{arith}
 use native.Mathlib.Decide.{ℕ-discrete}
-use borrow.Author.Tests.{eqb-true, eqb-false, eq-eqb, ne-eqb, not-true}
+use borrow.Author.Tests.{eqb-false, eq-eqb, ne-eqb, not-true}
 use lib.Dec.{eqb}
 use lib.ListN.{length, getD}
+use Rattle.field.proofs.Member.{member-cons}
 use Rattle.field.proofs.Tests.{both}
-use Rattle.field.specs.Primes.{Prime, OddPrime, noDivisor, keep, primesFrom, primes, member, listed, ListedIsOddPrime, PrimesAscend, FiftyThreePrimes}
+use Rattle.field.specs.Member.{member}
+use Rattle.field.specs.Primes.{Prime, OddPrime, noDivisor, keep, primesFrom, primes, listed, ListedIsOddPrime, PrimesAscend, FiftyThreePrimes}
 
 -- ---- trial division
 
@@ -46,15 +48,6 @@ prime-trial p prime =
     noDivisor-complete (p - 2) 2 p (λ e l g. prime .undivided e l (omega (arith, prime .two)))
 
 -- ---- membership
-
--- the first entry is x, or a later one is
-member-cons : (x y : ℕ) (ys : List ℕ) → member x (y ∷ ys) ≡ true → (y ≡ x) ⊎ (member x ys ≡ true)
-unfolding member
-member-cons x y ys t = go (eqb y x) refl t
-  where
-    go : (b : Bool) → eqb y x ≡ b → (b || member x ys) ≡ true → (y ≡ x) ⊎ (member x ys ≡ true)
-    go true e s = inl (eqb-true y x e)
-    go false e s = inr s
 
 member-later : (b : Bool) (x y : ℕ) (ys : List ℕ) → member x ys ≡ true → member x (keep b y ys) ≡ true
 unfolding member

@@ -1,11 +1,12 @@
 -- Primes, and the fixed list of them (document 01, "Field and digits").
 use Prim.Native.Nat.{ℕ, zero, suc, _-_, _%_, _≤_, _<_}
-use mathlib.Core.Bool.{Bool, true, false, not, _&&_, _||_}
+use mathlib.Core.Bool.{Bool, true, false, not, _&&_}
 use mathlib.Core.List.{List, [], _∷_}
 use mathlib.Core.Path.{_≡_}
 use mathlib.Core.Logic.{_≢_, _↔_}
 use lib.Dec.{eqb}
 use lib.ListN.{length, getD}
+use Rattle.field.specs.Member.{member}
 
 -- a prime in the usual sense: at least 2, and no divisor from 2 to p - 1
 pub record Prime (p : ℕ) : Type 0 where
@@ -32,11 +33,6 @@ primesFrom (suc n) d = keep (noDivisor (d - 2) 2 d) d (primesFrom n (suc d))
 unfoldable pub primes : List ℕ
 unfolding primesFrom
 primes = primesFrom 249 3
-
--- x stands in the list
-unfoldable pub member : ℕ → List ℕ → Bool
-member x [] = false
-member x (y ∷ ys) = eqb y x || member x ys
 
 -- "p is one of the 53 odd primes from 3 to 251, kept as a fixed list"
 unfoldable pub listed : ℕ → Bool

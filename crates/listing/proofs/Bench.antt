@@ -4,7 +4,8 @@ use mathlib.Core.Path.{refl}
 use Rattle.field.specs.Logarithm.{clog, flog}
 use Rattle.field.specs.Modular.{residue}
 use Rattle.field.specs.Polynomials.{orderConstants}
-use Rattle.field.specs.Primes.{primes, member, listed}
+use Rattle.field.specs.Member.{member}
+use Rattle.field.specs.Primes.{primes, listed}
 use Rattle.field.specs.Sum.{sum, total}
 use Rattle.circuit.specs.Constant.{code}
 use Rattle.circuit.specs.Count.{counted, count}

@@ -14,7 +14,7 @@ use lib.ListN.{length, take, drop, getD, set, length-append, length-set, take-ap
 use lib.Seq.{length-take-le, drop-drop, drop-set-lt, ext-getD, getD-set-same, getD-set-other, getD-take}
 use Rattle.answer.specs.Outcome.{accepted}
 use Rattle.answer.proofs.Outcome.{answered, accepted-same}
-use Rattle.field.specs.Primes.{member}
+use Rattle.field.specs.Member.{member}
 use Rattle.circuit.specs.Bytes.{byte, u16At}
 use Rattle.circuit.specs.Every.{Every}
 use Rattle.circuit.specs.Gate.{Gate, gateOf}

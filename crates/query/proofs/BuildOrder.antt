@@ -2,7 +2,8 @@
 -- Assumes nothing.
 use mathlib.Core.Path.{refl}
 use Rattle.field.specs.Polynomials.{orderExponents}
-use Rattle.field.specs.Primes.{member, primes, listed}
+use Rattle.field.specs.Member.{member}
+use Rattle.field.specs.Primes.{primes, listed}
 use Rattle.field.specs.Sum.{total}
 use Rattle.circuit.specs.ProductTree.{multiply}
 use Rattle.circuit.specs.Sums.{laterSum}

@@ -12,7 +12,7 @@ use borrow.Author.Tests.{eq-eqb, ne-eqb}
 use lib.Dec.{eqb}
 use lib.ListN.{length, drop, getD, drop-of-length-le}
 use lib.Seq.{drop-cons}
-use Rattle.field.specs.Primes.{member}
+use Rattle.field.specs.Member.{member}
 use Rattle.arithmetic.proofs.contains.Statement.{statement}
 use Rattle.arithmetic.proofs.contains.Tie as tie
 

@@ -2,7 +2,8 @@
 -- Assumes nothing.
 use mathlib.Core.Path.{ap, _∙_}
 use borrow.Author.Needs.{needs}
-use Rattle.field.specs.Primes.{member, listed}
+use Rattle.field.specs.Member.{member}
+use Rattle.field.specs.Primes.{listed}
 use Rattle.arithmetic.proofs.is_listed.Statement.{statement}
 use Rattle.arithmetic.proofs.is_listed.Tie as tie
 
