@@ -1,6 +1,6 @@
 //! "Distance at least 20 m, grade worse than 3": a question, its table, and the answer for two
 //! records; then "how bad is this stretch?", a score over the same two conditions. Plain digits
-//! stand where the runner has ciphertexts.
+//! stand where the runner has ciphertexts, and how many of these it has to hold at once is printed.
 
 use staplethread::{build, encode, forecast, last_uses, run, Refusal};
 
