@@ -108,7 +108,9 @@ uint8_t staplethread_build(const uint8_t *card, size_t card_length,
  * constants had signs, with a constant above (p-1)/2, is refused with 17; build it anew.
  */
 
-/* Check: the report on a table.
+/* Check: the report on a table. Products, squares and cost count the MULs among the output and the
+ * gates that it depends on, directly or through others, and two MULs over the same pair of gates, in
+ * either order, once; gates and depth are those of the table as it stands.
  * 12  under 8 bytes
  *  2  head mark
  *  3  p not one of the odd primes from 3 to 251

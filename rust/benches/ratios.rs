@@ -5,6 +5,9 @@ use second::card::{card_bytes, score_card_bytes};
 use std::hint::black_box;
 use std::time::Instant;
 
+#[path = "../tests/shapes/mod.rs"]
+mod shapes;
+
 /// Turns that each side takes; the best of each counts.
 const TURNS: usize = 60;
 
@@ -129,6 +132,34 @@ fn copy_row(name: &'static str, card: &[u8]) -> Row {
     }
 }
 
+/// Sizes that about double, and where the library's arrays grow.
+const SIZES: [u16; 7] = [256, 257, 1_000, 2_000, 2_049, 4_000, 8_191];
+
+/// Check of tables of one shape in growing sizes: the library's time, and its ratio to plain Rust.
+fn print_growth() {
+    println!();
+    println!(
+        "| Check, ns (ratio) |{} |",
+        SIZES.map(|gates| format!(" {gates}")).join(" |")
+    );
+    println!("|---|{}", "---|".repeat(SIZES.len()));
+    for shape in shapes::SHAPES {
+        let cells = SIZES.map(|gates| {
+            let table = shapes::table_of(&(shape.gates)(gates));
+            let told = staplethread::check(&table).expect(shape.name);
+            assert_eq!(told.products, (shape.products)(gates));
+            assert_eq!(told.squares, (shape.squares)(gates));
+            let (library, plain) = compare(
+                GATES_A_TURN / usize::from(gates),
+                &mut || keep(staplethread::check(black_box(&table))),
+                &mut || keep(second::check(black_box(&table))),
+            );
+            format!(" {library:.0} ({:.2})", library / plain)
+        });
+        println!("| {} |{} |", shape.name, cells.join(" |"));
+    }
+}
+
 fn main() {
     let cards = [
         ("first bench card", card_bytes(3, 75, &[(1, 1)])),
@@ -165,4 +196,5 @@ fn main() {
             );
         }
     }
+    print_growth();
 }

@@ -159,7 +159,9 @@ pub fn forecast(card: &[u8]) -> Result<Report, Refusal> {
     accepted(forecast_into(card, &mut told), told)
 }
 
-/// The report on a table. Later bytes are not looked at.
+/// The report on a table. Later bytes are not looked at. Products, squares and cost count the MULs
+/// among the output and the gates that it depends on, directly or through others, and two MULs over
+/// the same pair of gates, in either order, once; gates and depth are those of the table as it stands.
 pub fn check(table: &[u8]) -> Result<Report, Refusal> {
     let mut told = Report::BLANK;
     accepted(check_into(table, &mut told), told)

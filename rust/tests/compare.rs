@@ -10,6 +10,8 @@ use second::Random;
 use std::collections::BTreeMap;
 use std::fmt::Debug;
 
+mod shapes;
+
 const ROUNDS: u64 = 100_000;
 
 fn rounds() -> u64 {
@@ -438,6 +440,94 @@ fn tables() {
     checked.expect("check", &[0, 2, 3, 4, 5, 12, 13, 14, 15, 16, 17]);
     run.expect("run", &[0, 2, 3, 4, 5, 12, 13, 14, 15, 16, 17, 18, 19, 20]);
     listed.expect("last_uses", &[0, 2, 3, 4, 5, 12, 13, 14, 15, 16, 17, 27]);
+}
+
+/// A gate number below `number`: one of the first few, one of the last few, or any.
+fn near_or_far(random: &mut Random, number: u16) -> u16 {
+    let few = u64::from(number.min(4));
+    match random.below(8) {
+        0..=2 => random.below(few) as u16,
+        3..=6 => number - 1 - random.below(few) as u16,
+        _ => random.below(number.into()) as u16,
+    }
+}
+
+/// A table of products above all, over few gates, so that many are over a pair that another has,
+/// and many are not used.
+fn table_of_products(random: &mut Random) -> Vec<u8> {
+    let most = match random.below(400) {
+        0 => 8191,
+        1..=4 => 2_060,
+        5..=20 => 270,
+        _ => 40,
+    };
+    let count = 1 + random.below(most) as u16;
+    let gates: Vec<shapes::Gate> = (0..count)
+        .map(|number| {
+            let kind = match random.below(16) {
+                _ if number == 0 => 1,
+                0 => 1 + random.byte_below(2),
+                1..=4 => 3 + random.byte_below(4),
+                _ => 7,
+            };
+            match kind {
+                1 | 2 => (kind, 0, 0),
+                5 => (5, near_or_far(random, number), 0),
+                6 => (6, near_or_far(random, number), 0),
+                7 if rarely(random, 3) => {
+                    let a = near_or_far(random, number);
+                    (7, a, a)
+                }
+                _ => {
+                    let a = near_or_far(random, number);
+                    (kind, a, near_or_far(random, number))
+                }
+            }
+        })
+        .collect();
+    shapes::table_of(&gates)
+}
+
+/// How many records of a table are MULs, whatever uses them.
+fn products_in_records(table: &[u8]) -> usize {
+    table[8..].chunks(8).filter(|gate| gate[2] == 7).count()
+}
+
+/// Tables in which products are unused and pairs come again, in the smallest and the largest sizes.
+#[test]
+fn used_products() {
+    let mut random = Random::new(8);
+    let (mut fewer, mut none, mut all) = (0, 0, 0);
+    for _ in 0..rounds() {
+        let table = table_of_products(&mut random);
+        let (_, products, squares, _, _) = compare_check(&table).expect("every rule is kept");
+        let counted = usize::from(products) + usize::from(squares);
+        let written = products_in_records(&table);
+        assert!(counted <= written);
+        match counted {
+            0 => none += 1,
+            _ if counted == written => all += 1,
+            _ => fewer += 1,
+        }
+    }
+    println!("used_products: fewer {fewer} none {none} all {all}");
+    assert!(fewer > rounds() / 2 && none > rounds() / 100 && all > rounds() / 100);
+}
+
+/// One shape after the other, where arrays end and begin and at the ends of what a table may have.
+#[test]
+fn shapes_of_each_size() {
+    let sizes = [
+        6, 7, 8, 9, 255, 256, 257, 1_000, 2_047, 2_048, 2_049, 4_000, 8_190, 8_191,
+    ];
+    for shape in shapes::SHAPES {
+        for count in sizes {
+            let table = shapes::table_of(&(shape.gates)(count));
+            let (gates, products, squares, _, _) = compare_check(&table).expect(shape.name);
+            let expected = (count, (shape.products)(count), (shape.squares)(count));
+            assert_eq!((gates, products, squares), expected, "{}", shape.name);
+        }
+    }
 }
 
 /// A LEFT and a second gate, whose record opens with a word and has operands that every kind may

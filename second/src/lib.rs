@@ -1,7 +1,7 @@
 //! The query builder: cards, gate tables, the plain run of a table, digit
 //! coding and a forecast, as the document on the builder's rules has them, and
-//! scored queries, constants near zero and the last-use list, as the requests
-//! for them do.
+//! scored queries, constants near zero, the last-use list and products that
+//! nothing uses, as the requests for them do.
 
 pub mod build;
 pub mod card;
@@ -18,6 +18,7 @@ pub mod report;
 pub mod run;
 pub mod script;
 pub mod table;
+pub mod used;
 
 pub use build::build;
 pub use cases::cases;

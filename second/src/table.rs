@@ -4,6 +4,7 @@ use crate::card::is_weight;
 use crate::field::{is_listed, is_near_zero, MOST_DIGITS};
 use crate::refusal::{self, demand, Refusal};
 use crate::report::{cost, Depth, Report};
+use crate::used::{used_counts, Counts};
 
 pub const RECORD_BYTES: usize = 8;
 pub const HEAD_MARK: [u8; 2] = [0x47, 0x48];
@@ -203,23 +204,25 @@ impl<'a> Table<'a> {
             .map(|record| Gate::fields(record).expect("gates of a read table are sound"))
     }
 
-    /// Counts over all records; "the table's depth is the last gate's".
+    /// What a table with these gates costs, and how deep it is.
     fn report(&self) -> Report {
-        let mut products = 0;
-        let mut squares = 0;
-        let mut depths: Vec<u16> = Vec::with_capacity(usize::from(self.head.gates));
-        for gate in self.gates() {
-            products += u16::from(gate.is_product());
-            squares += u16::from(gate.is_square());
-            depths.push(gate_depth(&gate, &depths));
-        }
+        let Counts { products, squares } = used_counts(self);
         Report {
             gates: self.head.gates,
             products,
             squares,
             cost: cost(self.head.weight, products, squares),
-            depth: Depth(depths.last().copied().unwrap_or(0)),
+            depth: self.depth(),
         }
+    }
+
+    /// "The table's depth is the last gate's."
+    fn depth(&self) -> Depth {
+        let mut depths: Vec<u16> = Vec::with_capacity(usize::from(self.head.gates));
+        for gate in self.gates() {
+            depths.push(gate_depth(&gate, &depths));
+        }
+        Depth(depths.last().copied().unwrap_or(0))
     }
 }
 
@@ -241,7 +244,8 @@ pub fn table_bytes(gates: u16) -> usize {
     RECORD_BYTES * (usize::from(gates) + 1)
 }
 
-/// Check: what Build would have answered for this table.
+/// Check: "Success answers as Build", and for a table that Build has written just
+/// what it answered.
 pub fn check(table: &[u8]) -> Result<Report, Refusal> {
     Ok(Table::read(table)?.report())
 }

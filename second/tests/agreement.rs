@@ -4,6 +4,7 @@ use second::card::{card_bytes as card, score_card_bytes as score_card, Card, For
 use second::field::{half_range, near_zero, order_constants, scale, PRIMES};
 use second::table::{Gate, Head, Kind, Table};
 use second::{build, check, decode, encode, expected_output, forecast, run, trim, Random};
+use std::collections::BTreeSet;
 
 const RELATIONS: [u8; 6] = [1, 2, 3, 4, 5, 6];
 
@@ -416,9 +417,9 @@ fn old_values(p: u8, gates: &[Gate], left: &[u8], right: &[u8]) -> Vec<u8> {
 }
 
 /// Products, squares, cost and depth by the document, in which a SCALE's
-/// constant has no part.
+/// constant has no part; but only the MULs that the output needs count, and one
+/// pair of gates once.
 fn old_report(weight: u8, gates: &[Gate]) -> (u16, u16, u32, u16) {
-    let (mut products, mut squares) = (0, 0);
     let mut depths: Vec<u16> = Vec::new();
     for gate in gates {
         let depth = |operand: u16| depths[usize::from(operand)];
@@ -426,19 +427,37 @@ fn old_report(weight: u8, gates: &[Gate]) -> (u16, u16, u32, u16) {
             Kind::Left | Kind::Right => 0,
             Kind::Scale | Kind::Flip => depth(gate.a),
             Kind::Add | Kind::Sub => depth(gate.a).max(depth(gate.b)),
-            Kind::Mul => {
-                let is_square = gate.a == gate.b;
-                *(if is_square {
-                    &mut squares
-                } else {
-                    &mut products
-                }) += 1;
-                1 + depth(gate.a).max(depth(gate.b))
-            }
+            Kind::Mul => 1 + depth(gate.a).max(depth(gate.b)),
         });
     }
+    let pairs = needed_pairs(gates);
+    let squares = pairs.iter().filter(|(lower, higher)| lower == higher);
+    let squares = squares.count() as u16;
+    let products = pairs.len() as u16 - squares;
     let cost = 100 * u32::from(products) + u32::from(weight) * u32::from(squares);
     (products, squares, cost, depths[depths.len() - 1])
+}
+
+/// The pairs of the MULs that are met on any way down from the output.
+fn needed_pairs(gates: &[Gate]) -> BTreeSet<(u16, u16)> {
+    let mut met = BTreeSet::new();
+    let mut pairs = BTreeSet::new();
+    let mut waiting = vec![gates.len() as u16 - 1];
+    while let Some(number) = waiting.pop() {
+        if met.insert(number) {
+            let Gate { kind, a, b } = gates[usize::from(number)];
+            match kind {
+                Kind::Left | Kind::Right => {}
+                Kind::Scale | Kind::Flip => waiting.push(a),
+                Kind::Add | Kind::Sub => waiting.extend([a, b]),
+                Kind::Mul => {
+                    waiting.extend([a, b]);
+                    pairs.insert((a.min(b), a.max(b)));
+                }
+            }
+        }
+    }
+    pairs
 }
 
 /// "Gate values, depth and cost are the same as under the old constants."

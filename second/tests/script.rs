@@ -66,8 +66,8 @@ fn the_example() {
 fn the_script_keeps_its_form() {
     let script = cases();
     assert!(script.is_ascii() && script.ends_with('\n') && !script.contains('\r'));
-    assert!(script.len() <= 250_000);
-    assert!((3_000..=10_500).contains(&script.lines().count()));
+    assert!(script.len() <= 260_000);
+    assert!((3_000..=10_800).contains(&script.lines().count()));
     assert_eq!(script, cases());
     for line in script.lines() {
         let words: Vec<&str> = line.split(' ').collect();

@@ -23,7 +23,6 @@ use Rattle.circuit.specs.Segment as segment
 use Rattle.circuit.specs.Sums.{largest}
 use Rattle.circuit.specs.Table.{Head, headBytes, mostGates}
 use Rattle.circuit.proofs.Bounds.{counts-below}
-use Rattle.circuit.proofs.Count.{all-counted}
 use Rattle.circuit.proofs.Every.{every-map}
 use Rattle.circuit.proofs.Sums.{largest-covers, largest-within}
 use Rattle.comparison.specs.Condition.{Condition}
@@ -33,6 +32,7 @@ use Rattle.query.specs.Outcomes.{tableRoom, building, forecasting}
 use Rattle.query.specs.Promises.{ended}
 use Rattle.query.specs.Reading.{readCard}
 use Rattle.query.specs.Whole.{Draft, endBy, filled, tableOf}
+use Rattle.query.proofs.BuiltCounted.{built-counts}
 use Rattle.query.proofs.Building.{built}
 use Rattle.query.proofs.CardFacts.{Accepted, accepted-card}
 use Rattle.query.proofs.Promises.{output-levels, end-has, exact-size, card-output}
@@ -107,7 +107,7 @@ module _ (bytes : List ℕ) (card : Card) (e : readCard bytes ≡ accepted card)
 
     reported : reportIs pen₃ deep (card .weight) ≡ report (tableOf card)
     reported =
-        let same = all-counted (tableOf card .gates) in
+        let same = built-counts bytes card e in
         rw (wrote .number ∙ zero-add _, wrote .products ∙ zero-add _ ∙ sym (same .0), wrote .squares ∙ zero-add _ ∙ sym (same .1), deep-is)
 
     pub answers : accepted (reportIs pen₃ deep (card .weight)) ≡ building bytes lent .answer

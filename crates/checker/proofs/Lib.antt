@@ -1,4 +1,2 @@
--- Laws of Check and Trim, of which Run cites some.
-pub mod Reporting
-pub mod Checking
+-- Laws of Check and Trim.
 pub mod Outcomes

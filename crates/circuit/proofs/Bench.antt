@@ -7,13 +7,14 @@ use Rattle.field.specs.Primes.{primes, listed}
 use Rattle.digits.specs.Number.{allBelow}
 use Rattle.circuit.specs.Bench.{BenchReports, BenchOutputs, BenchRun}
 use Rattle.circuit.specs.Constant.{signed}
-use Rattle.circuit.specs.Count.{counted, count}
+use Rattle.circuit.specs.Count.{repeated, distinct, counted, count}
 use Rattle.circuit.specs.Meaning.{interpret}
 use Rattle.circuit.specs.Reading.{readGates}
 use Rattle.circuit.specs.Table.{gatesBytes}
+use Rattle.circuit.specs.Used.{needed, pick}
 
 pub bench-reports : BenchReports
-unfolding listed member primes signed gatesBytes readGates interpret counted count
+unfolding listed member primes signed gatesBytes readGates interpret needed pick repeated distinct counted count
 bench-reports = (refl, refl)
 
 pub bench-outputs : BenchOutputs

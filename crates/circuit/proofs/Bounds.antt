@@ -14,14 +14,14 @@ use Rattle.field.specs.Bit.{bit}
 use Rattle.field.proofs.Modular.{residue-below}
 use Rattle.digits.specs.Number.{allBelow}
 use Rattle.digits.proofs.Number.{below-at, below-append}
-use Rattle.circuit.specs.Count.{isMul, isSquare, isProduct, count, cost}
+use Rattle.circuit.specs.Count.{isMul, isSquare, isProduct, count, products, squares, cost}
 use Rattle.circuit.specs.Depth.{depths}
 use Rattle.circuit.specs.Gate.{Gate, Left, Right, Add, Sub, Scale, Flip, Mul, fields}
 use Rattle.circuit.specs.Meaning.{meaning, entryOf, interpret, entryAt, Solves}
 use Rattle.circuit.specs.Promises.{ValuesBelow, DepthsBelow}
 use Rattle.circuit.specs.Table.{mostWeight}
 use Rattle.circuit.specs.Value.{values}
-use Rattle.circuit.proofs.Count.{all-counted}
+use Rattle.circuit.proofs.Counted.{counted-fewer}
 use Rattle.circuit.proofs.Fitting.{Named, AllNamed, all-named}
 use Rattle.circuit.proofs.Meaning.{solved}
 
@@ -91,6 +91,8 @@ unfolding count
 counts-below [] = zero-le
 counts-below (g ∷ gs) = omega (arith, one-at-most (isMul g) (eqb (fields g .a) (fields g .b)), counts-below gs)
 
+pub counted-below : (gs : List Gate) → products gs + squares gs ≤ length gs
+counted-below gs = omega (arith, counts-below gs, counted-fewer isProduct gs, counted-fewer isSquare gs)
+
 pub cost-below : (s : ℕ) (gs : List Gate) → s ≤ mostWeight → cost s gs ≤ 100 * length gs
-cost-below s gs h =
-    rw (all-counted gs .0, all-counted gs .1) (omega (arith, counts-below gs, mul-le-mul-right (count isSquare gs) h))
+cost-below s gs h = omega (arith, counted-below gs, mul-le-mul-right (squares gs) h)

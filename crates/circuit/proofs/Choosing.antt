@@ -20,7 +20,7 @@ use Rattle.circuit.proofs.Rearranged.{same-length, same-every, last-fir
 
 -- ---- factors in order
 
-order-bounds : (i k : ℕ) (factors : List Node) → InOrder i k factors → i ≤ k
+pub order-bounds : (i k : ℕ) (factors : List Node) → InOrder i k factors → i ≤ k
 unfolding InOrder
 order-bounds i k [] h = h
 order-bounds i k (f ∷ fs) h = omega (arith, h .0, order-bounds (suc (f .gate)) k fs (h .1))
@@ -35,7 +35,7 @@ order-every i k (f ∷ fs) h = (
 )
 
 -- the lower bound may be lowered
-order-lower : (i j k : ℕ) (factors : List Node) → i ≤ j → InOrder j k factors → InOrder i k factors
+pub order-lower : (i j k : ℕ) (factors : List Node) → i ≤ j → InOrder j k factors → InOrder i k factors
 unfolding InOrder
 order-lower i j k [] l h = le-trans l h
 order-lower i j k (f ∷ fs) l h = (le-trans l (h .0), h .1)
@@ -160,6 +160,9 @@ pub record Paired (factors : List Node) : Type 0 where
   pub named : (k : ℕ) → InOrder 0 k factors → (firstOf factors .gate < k) × (secondOf factors .gate < k)
   pub apart : (k : ℕ) → InOrder 0 k factors → firstOf factors .gate ≢ secondOf factors .gate
   pub order : (k : ℕ) → InOrder 0 k factors → InOrder 0 (suc k) (next k factors)
+  -- and none of the two is left
+  pub alone : (k : ℕ) → InOrder 0 k factors
+      → Every (λ (f : Node). (firstOf factors .gate ≢ f .gate) × (secondOf factors .gate ≢ f .gate)) (restOf factors)
 
 pub pair-is : (n : ℕ) (factors : List Node) → length factors ≡ suc (suc n) → Paired factors
 pair-is n factors e =
@@ -178,6 +181,9 @@ pair-is n factors e =
       order = λ k h.
           let product = times k (firstOf factors) (secondOf factors) in
           order-append 0 k (suc k) (restOf factors) product (b .order 0 k (a .order 0 k h)) (le-refl _) (le-refl _);
+      alone = λ k h.
+          every-map₂ (λ (f : Node) first second. (first .1, second .1)) (restOf factors)
+          (same-every _ (b .same) (a .first 0 k h) .1) (b .first 0 k (a .order 0 k h));
     }
 
 pub next-same : (k : ℕ) (factors : List Node)

@@ -1,11 +1,11 @@
--- Counts of gates written one after the other, and of those of a finished table.
+-- Counts of gates written one after the other, whatever of them is counted in the end.
 -- Assumes nothing.
 use mathlib.Core.Path.{_≡_, refl}
 use mathlib.Core.Bool.{Bool, false}
 use mathlib.Core.List.{List, [], _∷_, _++_, map}
 use Prim.Native.Nat.{_+_}
 use native.Mathlib.Omega.{arith}
-use Rattle.circuit.specs.Count.{isSquare, isProduct, counted, count, products, squares}
+use Rattle.circuit.specs.Count.{count}
 use Rattle.circuit.specs.Gate.{Gate}
 
 pub count-append : (test : Gate → Bool) (gs hs : List Gate) → count test (gs ++ hs) ≡ count test gs + count test hs
@@ -26,8 +26,3 @@ pub count-map : (test : Gate → Bool) (f : Gate → Gate) → ((g : Gate) → t
 unfolding count
 count-map test f same [] = refl
 count-map test f same (g ∷ gs) = rw (same g, count-map test f same gs)
-
--- what is counted of a finished table: its records
-pub all-counted : (gates : List Gate) → (products gates ≡ count isProduct gates) × (squares gates ≡ count isSquare gates)
-unfolding counted
-all-counted gates = (refl, refl)

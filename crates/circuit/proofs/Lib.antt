@@ -9,10 +9,12 @@ pub mod Word
 pub mod Records
 pub mod Later
 pub mod Bytes
+pub mod Operands
 pub mod Bounds
+pub mod Used
+pub mod Counted
 pub mod Count
 pub mod OldConstants
-pub mod Operands
 pub mod LastUse
 pub mod Promises
 pub mod Unaltered
@@ -27,3 +29,9 @@ pub mod TreeDepth
 pub mod ProductTree
 pub mod Sums
 pub mod ListOrder
+pub mod Some
+pub mod Unrepeated
+pub mod AllCounted
+pub mod Networks
+pub mod InOrder
+pub mod Ends

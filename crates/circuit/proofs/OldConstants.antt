@@ -5,15 +5,17 @@ use mathlib.Core.List.{List, [], _∷_, map}
 use Prim.Native.Nat.{ℕ, suc, _-_}
 use lib.ListN.{length, length-map}
 use Rattle.circuit.specs.Constant.{plus}
-use Rattle.circuit.specs.Count.{isSquare, isProduct, products, squares}
+use Rattle.circuit.specs.Count.{isSquare, isProduct, samePair, counted, products, squares}
 use Rattle.circuit.specs.Depth.{depths, depth}
 use Rattle.circuit.specs.Gate.{Gate, Left, Right, Add, Sub, Scale, Flip, Mul}
 use Rattle.circuit.specs.Meaning.{meaning, entryOf, entries}
 use Rattle.circuit.specs.OldConstants.{oldGate, SameUnderOld, OldConstant}
+use Rattle.circuit.specs.Operands.{operands}
 use Rattle.circuit.specs.Sums.{laterSum, sumFrom}
 use Rattle.circuit.specs.Value.{values}
 use Rattle.circuit.proofs.Constant.{code-is}
-use Rattle.circuit.proofs.Count.{count-map, all-counted}
+use Rattle.circuit.proofs.Count.{count-map}
+use Rattle.circuit.proofs.Counted.{counted-map}
 use Rattle.circuit.proofs.Meaning.{interpret-map}
 
 module _ (p : ℕ) where
@@ -44,6 +46,30 @@ module _ (p : ℕ) where
   product-same (Flip a) = (refl, refl)
   product-same (Mul a b) = (refl, refl)
 
+  operands-same : (g : Gate) → operands (oldGate p g) ≡ operands g
+  operands-same (Left a) = refl
+  operands-same (Right a) = refl
+  operands-same (Add a b) = refl
+  operands-same (Sub a b) = refl
+  operands-same (Scale a c) = refl
+  operands-same (Flip a) = refl
+  operands-same (Mul a b) = refl
+
+  pair-same : (g h : Gate) → samePair (oldGate p g) (oldGate p h) ≡ samePair g h
+  pair-same (Left a) h = refl
+  pair-same (Right a) h = refl
+  pair-same (Add a b) h = refl
+  pair-same (Sub a b) h = refl
+  pair-same (Scale a c) h = refl
+  pair-same (Flip a) h = refl
+  pair-same (Mul a b) (Left c) = refl
+  pair-same (Mul a b) (Right c) = refl
+  pair-same (Mul a b) (Add c d) = refl
+  pair-same (Mul a b) (Sub c d) = refl
+  pair-same (Mul a b) (Scale c d) = refl
+  pair-same (Mul a b) (Flip c) = refl
+  pair-same (Mul a b) (Mul c d) = refl
+
   module _ (gates : List Gate) where
     abbrev old : List Gate
     old = map (oldGate p) gates
@@ -54,11 +80,14 @@ module _ (p : ℕ) where
     deep-same : depth old ≡ depth gates
     deep-same = ap₂ (λ (ds : List ℕ) (n : ℕ). entryOf depths ds (n - 1)) depths-same (length-map gates (oldGate p))
 
+    counted-same : counted old ≡ map (oldGate p) (counted gates)
+    counted-same = counted-map (oldGate p) operands-same pair-same gates
+
     products-same : products old ≡ products gates
-    products-same = rw (all-counted old .0, all-counted gates .0) (count-map isProduct (oldGate p) (λ g. product-same g .0) gates)
+    products-same = rw counted-same (count-map isProduct (oldGate p) (λ g. product-same g .0) (counted gates))
 
     squares-same : squares old ≡ squares gates
-    squares-same = rw (all-counted old .1, all-counted gates .1) (count-map isSquare (oldGate p) (λ g. product-same g .1) gates)
+    squares-same = rw counted-same (count-map isSquare (oldGate p) (λ g. product-same g .1) (counted gates))
 
 pub same-under-old : SameUnderOld
 same-under-old table left right =

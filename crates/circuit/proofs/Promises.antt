@@ -18,8 +18,7 @@ use Rattle.circuit.specs.Promises.{TableReadsBack, OnlyTables, ChecksTab
 use Rattle.circuit.specs.Reading.{reading}
 use Rattle.circuit.specs.Report.{report}
 use Rattle.circuit.specs.Table.{Table, tableBytes, leastWeight, mostWeight, mostGates}
-use Rattle.circuit.proofs.Count.{all-counted}
-use Rattle.circuit.proofs.Bounds.{depths-below, counts-below, cost-below}
+use Rattle.circuit.proofs.Bounds.{depths-below, counted-below, cost-below}
 use Rattle.circuit.proofs.Reading.{table-length, read-table, reads, bytes-read}
 use Rattle.circuit.proofs.WellFormed.{WellFormed, well-formed, is-well-formed}
 
@@ -87,7 +86,7 @@ bounds table w =
       count .1,
       omega (arith, depths-below (table .head) gates (length gates - 1) (w .fitted) (omega arith)),
       omega (arith, cost-below (table .head .weight) gates (weight .1)),
-      rw (all-counted gates .0, all-counted gates .1) (counts-below gates),
+      counted-below gates,
     )
 
 pub report-bounds : ReportBounds

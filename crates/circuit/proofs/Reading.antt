@@ -175,7 +175,7 @@ gates-cons head k count bytes gs e =
     (first .0, others .0, sym (accepted-same (others .2)), first .1, others .1)
 
 -- the gates that were read are as many as there should be, and each fits
-gates-fit : (head : Head) (k count : ℕ) (bytes : List ℕ) (gs : List Gate) → readGates head k count bytes ≡ accepted gs
+pub gates-fit : (head : Head) (k count : ℕ) (bytes : List ℕ) (gs : List Gate) → readGates head k count bytes ≡ accepted gs
     → (length gs ≡ count) × (allFit head k gs ≡ true)
 unfolding readGates allFit
 gates-fit head k zero bytes gs e = rw (← accepted-same e) (refl, refl)

@@ -1,4 +1,4 @@
--- To be believed by a reader of the promises: gates and their bytes, the constants of SCALEs, a record's word, what gates mean, which gates a gate reads, what Check, Trim, Run and the last-use list answer, product trees and sums.
+-- To be believed by a reader of the promises: gates and their bytes, the constants of SCALEs, a record's word, what gates mean, which gates a gate reads, which are used and which count, what Check, Trim, Run and the last-use list answer, product trees and sums.
 pub mod Bytes
 pub mod Constant
 pub mod Gate
@@ -6,6 +6,8 @@ pub mod Table
 pub mod Meaning
 pub mod Value
 pub mod Depth
+pub mod Operands
+pub mod Used
 pub mod Count
 pub mod Report
 pub mod ConstantPromises
@@ -13,7 +15,7 @@ pub mod OldConstants
 pub mod Reading
 pub mod Word
 pub mod Outcomes
-pub mod Operands
+pub mod UsedPromises
 pub mod LastUse
 pub mod LastUsePromises
 pub mod Every

@@ -17,3 +17,9 @@ pub mod OrderCondition
 pub mod EqualityCondition
 pub mod Relations
 pub mod Condition
+pub mod DifferenceNetwork
+pub mod DigitsNetwork
+pub mod OrderNetwork
+pub mod EqualityNetwork
+pub mod JoiningNetwork
+pub mod ConditionNetwork

@@ -1,7 +1,7 @@
--- Laws of tests: two that both hold, two of which neither does, a range, and two comparisons that hold together.
+-- Laws of tests: two that both hold, two of which one or neither does, two that hold together, a range, and comparisons that hold together.
 -- Assumes nothing.
 use mathlib.Core.Path.{_≡_, refl, sym, _∙_}
-use mathlib.Core.Logic.{_↔_}
+use mathlib.Core.Logic.{_↔_, _⊎_, inl, inr}
 use mathlib.Core.Bool.{Bool, true, false, not, _&&_, _||_, false≢true, true≢false}
 use Prim.Native.Nat.{ℕ, zero, suc, _≤_, _<_, zero-le}
 use native.Mathlib.Omega.{arith}
@@ -12,9 +12,18 @@ pub both : (a b : Bool) → (a && b) ≡ true → (a ≡ true) × (b ≡ true)
 both true b t = (refl, t)
 both false b t = absurd (false≢true t)
 
+pub either : (a b : Bool) → (a || b) ≡ true → (a ≡ true) ⊎ (b ≡ true)
+either true b t = inl refl
+either false b t = inr t
+
 pub neither : (a b : Bool) → (a || b) ≡ false → (a ≡ false) × (b ≡ false)
 neither true b t = absurd (true≢false t)
 neither false b t = (refl, t)
+
+pub test-same : (a b : Bool) → (a ≡ true) ↔ (b ≡ true) → a ≡ b
+test-same true b h = sym (h .0 refl)
+test-same false true h = h .1 refl
+test-same false false h = refl
 
 -- neither below the range nor above it
 pub in-range : (x low high : ℕ) → (ltb x low || ltb high x) ≡ false → (low ≤ x) × (x ≤ high)

@@ -1,3 +1,3 @@
 -- Laws of one gate.
-pub mod Adding
+pub mod GateDepth
 pub mod Constant

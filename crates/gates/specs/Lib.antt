@@ -1,3 +1,3 @@
--- Only serves contracts of functions inside: the verdict on a record's word, and what one gate adds to the report on the gates before it.
+-- Only serves contracts of functions inside: the verdict on a record's word, and the depth of one gate.
 pub mod Verdict
-pub mod Adding
+pub mod GateDepth

@@ -1,4 +1,4 @@
-// One gate of a table: its record's word, the rules that it keeps, its depth, and what it adds to the counts.
+// One gate of a table: its record's word, the rules that it keeps, and its depth.
 use answer::Refusal;
 use records::GATE_MARK;
 use records::TableHead;
@@ -7,24 +7,19 @@ ghost use mathlib.Core.Bool.{_&&_};
 ghost use Prim.Native.Nat.{suc, _%_, _≤_, _<_};
 ghost use lib.Dec.{ltb, eqb};
 ghost use lib.ListN.{length, getD};
-ghost use Rattle.answer.specs.Outcome.{accepted};
 ghost use Rattle.circuit.specs.Constant.{isConstant, signed};
 ghost use Rattle.circuit.specs.Reading.{readFields, readGate};
 ghost use Rattle.circuit.specs.Word.{wordAt, OpensWithBytes, wordVerdict};
 ghost use Rattle.records.specs.Head.{headIs};
-ghost use Rattle.gates.specs.Adding.{linear, isEarlier, deeperOf, multiplied, operands, adding, AreLow, addedAnswer};
+ghost use Rattle.gates.specs.GateDepth.{isEarlier, deeperOf, depthIf, depthRead, AreLow, gateAnswer};
 ghost use Rattle.gates.specs.Verdict.{verdictAnswer};
 
 // The number of the last kind.
 const MOST_KIND: usize = 7;
 
-// What a gate adds to the report on the gates before it, or why it is refused.
-pub enum Added {
-    Counted {
-        depth: u16,
-        products: u32,
-        squares: u32,
-    },
+// The depth of a gate, or why it is refused.
+pub enum GateRead {
+    Depth(u16),
     Refused(Refusal),
 }
 
@@ -34,41 +29,30 @@ enum Verdict {
     Refused(Refusal),
 }
 
-// A gate that is no MUL, at a depth.
-fn linear_at(depth: u16) -> Added
-    ensures { λ r. ⌜ addedAnswer r ≡ accepted (linear depth) ⌝ }
-{
-    Added::Counted {
-        depth,
-        products: 0,
-        squares: 0,
-    }
-}
-
 // LEFT and RIGHT.
-fn slot_gate(a: usize, b: usize, slots: usize) -> Added
-    ensures { λ r. ⌜ addedAnswer r ≡ operands (ltb a slots && eqb b 0) (linear 0) ⌝ }
+fn slot_gate(a: usize, b: usize, slots: usize) -> GateRead
+    ensures { λ r. ⌜ gateAnswer r ≡ depthIf (ltb a slots && eqb b 0) 0 ⌝ }
 {
     if slots <= a {
-        return Added::Refused(Refusal::WrongOperand);
+        return GateRead::Refused(Refusal::WrongOperand);
     }
     if b != 0 {
-        return Added::Refused(Refusal::WrongOperand);
+        return GateRead::Refused(Refusal::WrongOperand);
     }
-    linear_at(0)
+    GateRead::Depth(0)
 }
 
 // ADD and SUB.
-fn sum_gate(a: usize, b: usize, earlier: &[u16]) -> Added
-    ensures { λ r. ⌜ addedAnswer r ≡ operands (isEarlier (now (earlier .entry)) a && isEarlier (now (earlier .entry)) b) (linear (deeperOf (now (earlier .entry)) a b)) ⌝ }
+fn sum_gate(a: usize, b: usize, earlier: &[u16]) -> GateRead
+    ensures { λ r. ⌜ gateAnswer r ≡ depthIf (isEarlier (now (earlier .entry)) a && isEarlier (now (earlier .entry)) b) (deeperOf (now (earlier .entry)) a b) ⌝ }
 {
     if earlier.len() <= a {
-        return Added::Refused(Refusal::WrongOperand);
+        return GateRead::Refused(Refusal::WrongOperand);
     }
     if earlier.len() <= b {
-        return Added::Refused(Refusal::WrongOperand);
+        return GateRead::Refused(Refusal::WrongOperand);
     }
-    linear_at(answer::deeper(earlier[a], earlier[b]))
+    GateRead::Depth(answer::deeper(earlier[a], earlier[b]))
 }
 
 // Whether sixteen bits are a constant. Moved up by (p-1)/2, which is p / 2 as p is odd, the constants of both signs are the numbers
@@ -81,69 +65,47 @@ fn is_constant(b: usize, prime: u8) -> bool
 }
 
 // SCALE.
-fn scale_gate(a: usize, b: usize, prime: u8, earlier: &[u16]) -> Added
+fn scale_gate(a: usize, b: usize, prime: u8, earlier: &[u16]) -> GateRead
     requires { ⌜ (b < 0x10000) × (prime % 2 ≡ 1) ⌝ }
-    ensures { λ r. ⌜ addedAnswer r ≡ operands (isEarlier (now (earlier .entry)) a && isConstant prime (signed b)) (linear (getD (now (earlier .entry)) a 0)) ⌝ }
+    ensures { λ r. ⌜ gateAnswer r ≡ depthIf (isEarlier (now (earlier .entry)) a && isConstant prime (signed b)) (getD (now (earlier .entry)) a 0) ⌝ }
 {
     if earlier.len() <= a {
-        return Added::Refused(Refusal::WrongOperand);
+        return GateRead::Refused(Refusal::WrongOperand);
     }
     if !is_constant(b, prime) {
-        return Added::Refused(Refusal::WrongOperand);
+        return GateRead::Refused(Refusal::WrongOperand);
     }
-    linear_at(earlier[a])
+    GateRead::Depth(earlier[a])
 }
 
 // FLIP.
-fn flip_gate(a: usize, b: usize, earlier: &[u16]) -> Added
-    ensures { λ r. ⌜ addedAnswer r ≡ operands (isEarlier (now (earlier .entry)) a && eqb b 0) (linear (getD (now (earlier .entry)) a 0)) ⌝ }
+fn flip_gate(a: usize, b: usize, earlier: &[u16]) -> GateRead
+    ensures { λ r. ⌜ gateAnswer r ≡ depthIf (isEarlier (now (earlier .entry)) a && eqb b 0) (getD (now (earlier .entry)) a 0) ⌝ }
 {
     if earlier.len() <= a {
-        return Added::Refused(Refusal::WrongOperand);
+        return GateRead::Refused(Refusal::WrongOperand);
     }
     if b != 0 {
-        return Added::Refused(Refusal::WrongOperand);
+        return GateRead::Refused(Refusal::WrongOperand);
     }
-    linear_at(earlier[a])
-}
-
-// A product or a square at a depth.
-fn product_at(depth: u16, a: usize, b: usize) -> Added
-    ensures { λ r. ⌜ addedAnswer r ≡ accepted (multiplied a b depth) ⌝ }
-{
-    if a == b {
-        return Added::Counted {
-            depth,
-            products: 0,
-            squares: 1,
-        };
-    }
-    Added::Counted {
-        depth,
-        products: 1,
-        squares: 0,
-    }
+    GateRead::Depth(earlier[a])
 }
 
 // MUL: one level more than a sum over the same gates.
-fn mul_gate(a: usize, b: usize, earlier: &[u16]) -> Added
+fn mul_gate(a: usize, b: usize, earlier: &[u16]) -> GateRead
     requires { ⌜ AreLow (now earlier) ⌝ }
-    ensures { λ r. ⌜ addedAnswer r ≡ operands (isEarlier (now (earlier .entry)) a && isEarlier (now (earlier .entry)) b) (multiplied a b (suc (deeperOf (now (earlier .entry)) a b))) ⌝ }
+    ensures { λ r. ⌜ gateAnswer r ≡ depthIf (isEarlier (now (earlier .entry)) a && isEarlier (now (earlier .entry)) b) (suc (deeperOf (now (earlier .entry)) a b)) ⌝ }
 {
     match sum_gate(a, b, earlier) {
-        Added::Counted {
-            depth,
-            products: _,
-            squares: _,
-        } => product_at(depth + 1, a, b),
-        Added::Refused(why) => Added::Refused(why),
+        GateRead::Depth(depth) => GateRead::Depth(depth + 1),
+        GateRead::Refused(why) => GateRead::Refused(why),
     }
 }
 
-// What a gate adds that comes after others, whose depths are given; or 16 or 17.
-fn add_gate(kind: u8, a: usize, b: usize, head: TableHead, earlier: &[u16]) -> Added
+// The depth of a gate that comes after others, whose depths are given; or 16 or 17.
+fn gate_depth(kind: u8, a: usize, b: usize, head: TableHead, earlier: &[u16]) -> GateRead
     requires { ⌜ AreLow (now earlier) × (b < 0x10000) × (head .prime % 2 ≡ 1) ⌝ }
-    ensures { λ r. ⌜ addedAnswer r ≡ adding (now (earlier .entry)) (readFields (headIs head) (length (now (earlier .entry))) kind a b) ⌝ }
+    ensures { λ r. ⌜ gateAnswer r ≡ depthRead (now (earlier .entry)) (readFields (headIs head) (length (now (earlier .entry))) kind a b) ⌝ }
 {
     match kind {
         1 => slot_gate(a, b, arithmetic::wide(head.slots)),
@@ -153,7 +115,7 @@ fn add_gate(kind: u8, a: usize, b: usize, head: TableHead, earlier: &[u16]) -> A
         5 => scale_gate(a, b, head.prime, earlier),
         6 => flip_gate(a, b, earlier),
         7 => mul_gate(a, b, earlier),
-        _ => Added::Refused(Refusal::UnknownKind),
+        _ => GateRead::Refused(Refusal::UnknownKind),
     }
 }
 
@@ -189,19 +151,19 @@ fn verdict_of(word: u32) -> Verdict
     Verdict::Kind(kind as u8)
 }
 
-// What the gate adds whose record the bytes begin with, or the first of its rules that is broken.
-pub fn read_gate(bytes: &[u8], head: TableHead, earlier: &[u16]) -> Added
+// The depth of the gate whose record the bytes begin with, or the first of its rules that is broken.
+pub fn read_gate(bytes: &[u8], head: TableHead, earlier: &[u16]) -> GateRead
     requires { ⌜ (8 ≤ length (now bytes)) × AreLow (now earlier) × (head .prime % 2 ≡ 1) ⌝ }
-    ensures { λ r. ⌜ addedAnswer r ≡ adding (now (earlier .entry)) (readGate (headIs head) (length (now (earlier .entry))) (now (bytes .entry))) ⌝ }
+    ensures { λ r. ⌜ gateAnswer r ≡ depthRead (now (earlier .entry)) (readGate (headIs head) (length (now (earlier .entry))) (now (bytes .entry))) ⌝ }
 {
     match verdict_of(word_at(bytes)) {
-        Verdict::Kind(kind) => add_gate(
+        Verdict::Kind(kind) => gate_depth(
             kind,
             records::u16_at(bytes, 4),
             records::u16_at(bytes, 6),
             head,
             earlier,
         ),
-        Verdict::Refused(why) => Added::Refused(why),
+        Verdict::Refused(why) => GateRead::Refused(why),
     }
 }

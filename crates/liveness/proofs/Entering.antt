@@ -2,22 +2,18 @@
 -- A gate more replaces the entries of the gates that it reads, and no gate so far reads it.
 -- Assumes nothing.
 use mathlib.Core.Path.{_≡_, refl, sym, ap, ap₂, subst, _∙_}
-use mathlib.Core.Bool.{Bool, true, false, _||_}
+use mathlib.Core.Bool.{Bool, true, false}
 use mathlib.Core.List.{List, [], _∷_, _++_, append-assoc, append-nil}
 use Prim.Native.Nat.{ℕ, _+_, _-_, _≤_, _<_, zero-le}
 use native.Mathlib.Omega.{arith}
 use native.Mathlib.Decide.{ℕ-discrete}
 use native.Mathlib.Nat.{sub-zero}
-use borrow.Author.Tests.{eqb-true, eqb-false}
-use lib.Dec.{eqb}
 use lib.ListN.{length, take, drop, getD, set, length-append, length-set, take-append-drop}
 use lib.Seq.{length-take-le, drop-drop, drop-set-lt, ext-getD, getD-set-same, getD-set-other, getD-take}
 use Rattle.answer.specs.Outcome.{accepted}
-use Rattle.answer.proofs.Outcome.{answered, accepted-same}
-use Rattle.field.specs.Member.{member}
-use Rattle.circuit.specs.Bytes.{byte, u16At}
+use Rattle.answer.proofs.Outcome.{accepted-same}
 use Rattle.circuit.specs.Every.{Every}
-use Rattle.circuit.specs.Gate.{Gate, gateOf}
+use Rattle.circuit.specs.Gate.{Gate}
 use Rattle.circuit.specs.LastUse.{lastReader, lastUse, lastUses}
 use Rattle.circuit.specs.Operands.{operands, reads}
 use Rattle.circuit.specs.Reading.{headOf, readGate, readGates, reading}
@@ -25,40 +21,13 @@ use Rattle.circuit.proofs.Every.{every-map}
 use Rattle.circuit.proofs.Fitting.{Named, named}
 use Rattle.circuit.proofs.LastUse.{orElse, one-more-gate, one-for-each}
 use Rattle.circuit.proofs.Operands.{reads-lower}
-use Rattle.circuit.proofs.Reading.{fitting-is, fields-read, says}
+use Rattle.circuit.proofs.Reading.{says}
+use Rattle.records.specs.Operands.{operandsAt, entered}
+use Rattle.records.specs.Read.{gatesRead}
+use Rattle.records.proofs.Entered.{length-entered, entered-at, entered-after}
+use Rattle.records.proofs.Read.{table-read, gates-read, says-operands}
 use Rattle.records.proofs.Records.{recordAt, lentAt, lent-is, next-gate}
-use Rattle.checker.specs.Reporting.{gatesRead}
-use Rattle.checker.proofs.Outcomes.{table-read, gates-read}
-use Rattle.liveness.specs.Entering.{operandsAt, entered, usesIn}
-
--- ---- a number entered at places
-
-length-entered : (number : ℕ) (places list : List ℕ) → length (entered number places list) ≡ length list
-length-entered number [] list = refl
-length-entered number (i ∷ is) list = length-entered number is (set list i number) ∙ length-set list i number
-
--- each entry is the number, or as it was
-entered-at : (number : ℕ) (places list : List ℕ) (i : ℕ) → i < length list
-    → getD (entered number places list) i 0 ≡ orElse (member i places) number (getD list i 0)
-unfolding member
-entered-at number [] list i l = refl
-entered-at number (j ∷ js) list i l =
-    entered-at number js (set list j number) i (rw length-set l) ∙ go (eqb j i) refl
-  where
-    go : (same : Bool) → eqb j i ≡ same
-        → orElse (member i js) number (getD (set list j number) i 0) ≡ orElse (same || member i js) number (getD list i 0)
-    go true e = rw (eqb-true j i e, getD-set-same list i number 0 l) (again (member i js))
-      where
-        again : (t : Bool) → orElse t number number ≡ number
-        again true = refl
-        again false = refl
-    go false e = rw (getD-set-other list j i number 0 (λ (q : i ≡ j). eqb-false j i e (sym q)))
-
--- those after all places are as they were
-entered-after : (number n : ℕ) (places list : List ℕ) → Every (λ (i : ℕ). i < n) places → drop n (entered number places list) ≡ drop n list
-entered-after number n [] list low = refl
-entered-after number n (i ∷ is) list low =
-    entered-after number n is (set list i number) (low .1) ∙ drop-set-lt n list i number (low .0)
+use Rattle.liveness.specs.UsesIn.{usesIn}
 
 -- ---- one record after the other
 
@@ -101,18 +70,14 @@ module _ {table : List ℕ} {count : ℕ} {list₀ list : List ℕ} {k : ℕ} (u
     gate = next .0
 
     -- its record says its operands, which are lower gates
-    says-operands : operandsAt (lentAt table k) ≡ operands gate
-    says-operands =
-        let read = fields-read (headOf table) k (recordAt table k) gate (next .3) .2 in
-        let kind = answered (gateOf (byte (recordAt table k) 2) (u16At (recordAt table k) 4) (u16At (recordAt table k) 6)) _ read in
-        let same = fitting-is (headOf table) k _ (kind .0) gate (kind .2) .2 in
-        rw (lent-is table k, kind .1) (ap operands same)
+    reads-these : operandsAt (lentAt table k) ≡ operands gate
+    reads-these = rw (lent-is table k) (says-operands (headOf table) k (recordAt table k) gate (next .3))
 
     lower : Named k gate
     lower = named (headOf table) k gate (says (headOf table) k (recordAt table k) gate (next .3) .fitted)
 
     pub within : Every (λ (i : ℕ). i < length list) (operandsAt (lentAt table k))
-    within = rw says-operands (every-map (λ (i : ℕ) (l : i < k). omega (arith, u .size)) (operands gate) lower)
+    within = rw reads-these (every-map (λ (i : ℕ) (l : i < k). omega (arith, u .size)) (operands gate) lower)
 
     -- the list with the gate's operands entered, and then the gate itself
     abbrev during : List ℕ
@@ -157,7 +122,7 @@ module _ {table : List ℕ} {count : ℕ} {list₀ list : List ℕ} {k : ℕ} (u
         entry i l (no e) =
             getD-set-other during k i k 0 e
             ∙ entered-at k (operandsAt (lentAt table k)) list i (omega (arith, u .size))
-            ∙ rw (says-operands, u .uses i (omega arith)) (sym (used i))
+            ∙ rw (reads-these, u .uses i (omega arith)) (sym (used i))
 
         later : drop (k + 1) after ≡ drop (k + 1) list₀
         later =
@@ -168,7 +133,7 @@ module _ {table : List ℕ} {count : ℕ} {list₀ list : List ℕ} {k : ℕ} (u
             ∙ drop-drop 1 k list₀
           where
             below : Every (λ (i : ℕ). i < k + 1) (operandsAt (lentAt table k))
-            below = rw says-operands (every-map (λ (i : ℕ) (l : i < k). omega arith) (operands gate) lower)
+            below = rw reads-these (every-map (λ (i : ℕ) (l : i < k). omega arith) (operands gate) lower)
 
     pub turn : (now : List ℕ) → now ≡ during → Entering table count list₀ (set now k k) (k + 1)
     turn now e = subst (λ (l : List ℕ). Entering table count list₀ (set l k k) (k + 1)) (sym e) one-more

@@ -1,4 +1,3 @@
 -- Laws of the last-use list.
-pub mod Operands
 pub mod Entering
 pub mod Outcome

@@ -1,4 +1,4 @@
--- Which line of `findingLastUses` the rules pick for a table that Check accepts.
+-- Which line of `findingLastUses` the rules pick for a table that is refused, and for one that was read.
 -- Assumes nothing.
 use mathlib.Core.Path.{_≡_, sym, ap, ap₂, _∙_}
 use mathlib.Core.Bool.{false}
@@ -7,12 +7,15 @@ use Prim.Native.Nat.{ℕ, _≤_, _<_}
 use borrow.Author.Tests.{lt-ltb, le-ltb}
 use lib.Dec.{ltb}
 use lib.ListN.{length, drop}
-use Rattle.answer.specs.Outcome.{accepted, unaltered}
+use Rattle.answer.specs.Outcome.{refused, accepted, unaltered}
 use Rattle.circuit.specs.LastUse.{lastUses, findingLastUses}
 use Rattle.circuit.specs.Reading.{reading}
-use Rattle.checker.specs.Reporting.{gatesRead}
-use Rattle.checker.proofs.Outcomes.{table-read}
-use Rattle.liveness.specs.Entering.{usesIn}
+use Rattle.records.specs.Read.{gatesRead}
+use Rattle.records.proofs.Read.{table-read}
+use Rattle.liveness.specs.UsesIn.{usesIn}
+
+pub not-listed : (bytes list : List ℕ) (n : ℕ) → reading bytes ≡ refused n → findingLastUses bytes list ≡ unaltered list n
+not-listed bytes list n e = rw e
 
 module _ (bytes list : List ℕ) (count : ℕ) (e : gatesRead (reading bytes) ≡ accepted count) where
   pub list-short : length list < count → findingLastUses bytes list ≡ unaltered list 27

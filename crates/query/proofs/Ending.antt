@@ -1,9 +1,9 @@
 -- What ends a table, of each form: the product tree over the outputs of a sound draft, or their sum. It fits, so many gates it has,
--- its output is the last gate, and its node tells the depth. Of each law a form more is a clause more.
+-- its output is the last gate, it reads every other gate and all outputs, and its node tells the depth. Of each law a form more is a clause more.
 -- Assumes nothing.
 use mathlib.Core.Path.{_≡_, refl, sym, ap, _∙_}
 use mathlib.Core.Bool.{true, false, true≢false}
-use mathlib.Core.List.{List, _++_}
+use mathlib.Core.List.{List, [], _∷_, _++_}
 use Prim.Native.Nat.{ℕ, suc, _-_, _%_, _≤_, _<_}
 use native.Mathlib.Omega.{arith}
 use lib.ListN.{length, length-append}
@@ -17,9 +17,12 @@ use Rattle.circuit.specs.Segment.{Node, Segment}
 use Rattle.circuit.specs.Sums.{largest}
 use Rattle.circuit.specs.Table.{Head, allFit}
 use Rattle.circuit.proofs.Choosing.{order-every}
+use Rattle.circuit.proofs.Ends.{tree-network}
 use Rattle.circuit.proofs.Every.{every-map, every-map₂, map-same}
 use Rattle.circuit.proofs.Fitting.{all-named}
+use Rattle.circuit.proofs.InOrder.{order-before}
 use Rattle.circuit.proofs.Meaning.{later-solved}
+use Rattle.circuit.proofs.Networks.{Network}
 use Rattle.circuit.proofs.ProductTree.{tree-last, product-fits, product-count, product-depth}
 use Rattle.circuit.proofs.TreeDepth.{tree-depth}
 use Rattle.comparison.specs.Condition.{Condition}
@@ -29,7 +32,7 @@ use Rattle.query.specs.Formulas.{endSize, endProducts}
 use Rattle.query.specs.Score.{scoreSum}
 use Rattle.query.specs.Whole.{Draft, endBy}
 use Rattle.query.proofs.Form.{score-form}
-use Rattle.query.proofs.Score.{each-below, score-counts, score-fits, score-deep}
+use Rattle.query.proofs.Score.{each-below, score-counts, score-fits, score-network, score-deep}
 use Rattle.query.proofs.Whole.{Sound, outputs-kept}
 
 -- a card that asks for a yes or no ends with the tree, one that asks for a score with the sum
@@ -88,6 +91,11 @@ module _ (head : Head) (cs : List Condition) (draft : Draft) (sound : Sound head
 
   pub last-gate : (form : Form) → length (gatesBy form) - 1 ≡ end form .output .gate
   last-gate form = omega (arith, end-last form)
+
+  -- its gates are a network over the outputs
+  pub end-network : (form : Form) → Network k outputs (end form .gates) (end form .output ∷ [])
+  end-network Plain = tree-network k outputs some-output (sound .order)
+  end-network Scored = score-network p k cs outputs many some (order-before 0 k outputs (sound .order))
 
   -- entries of all gates solve those of the end
   pub end-solved : {A : Type 0} (alg : Algebra A) → p % 2 ≡ 1 → (form : Form) → Weighed form

@@ -9,5 +9,6 @@ pub mod Whole
 pub mod Score
 mod Ending
 pub mod AnyTests
+pub mod BuiltCounted
 pub mod Promises
 pub mod ScorePromises

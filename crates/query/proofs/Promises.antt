@@ -32,7 +32,7 @@ use Rattle.circuit.specs.Sums.{largest}
 use Rattle.circuit.specs.Table.{Head, Table, tableBytes, wellFormed, mostGates}
 use Rattle.circuit.specs.TreePromises.{TwoLeast}
 use Rattle.circuit.specs.Value.{values}
-use Rattle.circuit.proofs.Count.{count-append, all-counted}
+use Rattle.circuit.proofs.Count.{count-append}
 use Rattle.circuit.proofs.Every.{every-map}
 use Rattle.circuit.proofs.ProductTree.{least-first}
 use Rattle.circuit.proofs.Promises.{table-reads-back, checks-tables, trims-tables, runs-tables, run-accepts}
@@ -54,6 +54,7 @@ use Rattle.query.specs.Reading.{readCard}
 use Rattle.query.specs.Whole.{Draft, begin, endBy, filled, tableOf}
 use Rattle.query.proofs.AnyTests.{known, good, sound, outputs-length, some, output-last, depth-told, gates-fit, tree-ends, lawful-answer, lawful-depth}
 use Rattle.query.proofs.Building.{built}
+use Rattle.query.proofs.BuiltCounted.{built-counts}
 use Rattle.query.proofs.CardFacts.{Accepted}
 use Rattle.query.proofs.Ending.{end-counts}
 use Rattle.query.proofs.OverConditions.{over-mono, over-times, over-cost, over-some, over-powers, size-within}
@@ -153,9 +154,10 @@ module _ (bytes : List ℕ) (card : Card) (e : readCard bytes ≡ accepted card)
   unfolding count
   formula-counts =
       let conditions = all-counts head three odd begin (card .conditions) conditions-good in
+      let counted = built-counts bytes card e in
       let later = ended card .gates in (
-        omega (arith, all-counted gates .0, count-append isProduct (draft .gates) later, end-has .1, conditions .0),
-        omega (arith, all-counted gates .1, count-append isSquare (draft .gates) later, end-has .2, conditions .1),
+        omega (arith, counted .0, count-append isProduct (draft .gates) later, end-has .1, conditions .0),
+        omega (arith, counted .1, count-append isSquare (draft .gates) later, end-has .2, conditions .1),
       )
 
   -- so the cost is that of the products of the end and that of each condition

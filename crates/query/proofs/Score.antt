@@ -1,10 +1,11 @@
 -- The sum that ends the table of a score card: over entries that solve it, it is the score modulo p and as deep as the deepest output;
--- how many gates it has, and that they fit.
+-- how many gates it has, that they fit, and that they read every output.
 -- What is special to it is that its terms are the outputs by the weights; the rest is so of sums of any gates.
 -- Assumes nothing.
 use mathlib.Core.Path.{_≡_, refl, sym, ap, ap₂, _∙_}
 use mathlib.Core.Bool.{Bool, true, false}
 use mathlib.Core.List.{List, [], _∷_, map}
+use mathlib.Core.Logic.{inl, inr}
 use Prim.Native.Nat.{ℕ, suc, _-_, _*_, _%_, _≤_, _<_}
 use native.Mathlib.Omega.{arith}
 use native.Mathlib.Nat.{mod-mod, mul-comm}
@@ -23,10 +24,14 @@ use Rattle.circuit.specs.Segment.{Node}
 use Rattle.circuit.specs.Sums.{sumFrom, sumGate, largest}
 use Rattle.circuit.specs.Table.{Head, fits, allFit}
 use Rattle.circuit.specs.Value.{values}
+use Rattle.circuit.proofs.AllCounted.{Read}
 use Rattle.circuit.proofs.Constant.{code-fits, code-is}
+use Rattle.circuit.proofs.Ends.{sum-network}
 use Rattle.circuit.proofs.Fitting.{one-fits}
+use Rattle.circuit.proofs.Networks.{Among, Network}
 use Rattle.circuit.proofs.OldConstants.{sum-old, old-constant}
 use Rattle.circuit.proofs.Sums.{sum-value, sum-depth, sum-count, sum-fits}
+use Rattle.circuit.proofs.Unrepeated.{NoMul}
 use Rattle.comparison.specs.Condition.{Condition, holds}
 use Rattle.query.specs.Card.{totalWeight}
 use Rattle.query.specs.Holds.{truths, scoreOf}
@@ -102,6 +107,30 @@ module _ (head : Head) (odd : head .prime % 2 ≡ 1) (k : ℕ) where
       → Every (λ (f : Node). f .gate < k) outputs → allFit head k (scoreSum (head .prime) cs k outputs .gates) ≡ true
   score-fits cs outputs below named =
       sum-fits head k (scaledOutputs (head .prime) (weightsOf cs) outputs) (scaled-fit (weightsOf cs) outputs below named)
+
+-- ---- it reads every output
+
+module _ (p : ℕ) where
+  scaled-plain : (ws : List ℕ) (outputs : List Node) → NoMul (scaledOutputs p ws outputs)
+  unfolding scaledOutputs
+  scaled-plain [] outputs = tt
+  scaled-plain (w ∷ ws) [] = tt
+  scaled-plain (w ∷ ws) (f ∷ fs) = (tt, scaled-plain ws fs)
+
+  scaled-read : (ws : List ℕ) (outputs : List Node) → length outputs ≡ length ws → (x : ℕ) → Among x outputs → Read x (scaledOutputs p ws outputs)
+  unfolding scaledOutputs
+  scaled-read ws [] e x a = absurd a
+  scaled-read [] (f ∷ fs) e x a = absurd (omega arith)
+  scaled-read (w ∷ ws) (f ∷ fs) e x (inl s) = inl (inl s)
+  scaled-read (w ∷ ws) (f ∷ fs) e x (inr a) = inr (scaled-read ws fs (omega arith) x a)
+
+  pub score-network : (k : ℕ) (cs : List Condition) (outputs : List Node) → length outputs ≡ length cs → 1 ≤ length cs
+      → ((x : ℕ) → Among x outputs → x < k) → Network k outputs (scoreSum p cs k outputs .gates) (scoreSum p cs k outputs .output ∷ [])
+  score-network k cs outputs many some before =
+      let long = terms-length p cs outputs many in
+      let same = many ∙ sym (length-map cs (λ (c : Condition). c .weight)) in
+      sum-network k outputs (scaledOutputs p (weightsOf cs) outputs) (scoreSum p cs k outputs .output) (omega arith)
+      (scaled-plain (weightsOf cs) outputs) (λ x a. (before x a, scaled-read (weightsOf cs) outputs same x a)) (ap (sumGate k) (sym long))
 
 -- ---- its value
 

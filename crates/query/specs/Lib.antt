@@ -11,6 +11,7 @@ pub mod Holds
 pub mod CardPromises
 pub mod BuildOrder
 pub mod Promises
+pub mod CountPromises
 pub mod ScorePromises
 pub mod AnyTests
 pub mod Bench

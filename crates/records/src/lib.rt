@@ -1,13 +1,16 @@
-// Records, as they stand in bytes: marks, numbers of two bytes, ranges, and the head of a table.
+// Records, as they stand in bytes: marks, numbers of two bytes, ranges, the head of a table, and the gates that a gate reads.
 ghost use mathlib.Core.Path.{_≡_};
 ghost use mathlib.Core.Bool.{_||_};
-ghost use Prim.Native.Nat.{_+_, _≤_, _<_};
+ghost use mathlib.Core.List.{[], _∷_};
+ghost use Prim.Native.Nat.{ℕ, _+_, _≤_, _<_};
 ghost use lib.Dec.{ltb};
-ghost use lib.ListN.{length};
+ghost use lib.ListN.{length, take};
 ghost use Rattle.circuit.specs.Bytes.{wrongMark, u16At};
+ghost use Rattle.circuit.specs.Every.{Every};
 ghost use Rattle.circuit.specs.Reading.{headOf};
 ghost use Rattle.records.specs.Marks.{markOf};
 ghost use Rattle.records.specs.Head.{headIs};
+ghost use Rattle.records.specs.Operands.{operandsOf, operandsAt, entered};
 
 // The marks of a head and of a gate.
 pub const HEAD_MARK: [u8; 2] = [0x47, 0x48];
@@ -71,4 +74,38 @@ pub fn head_at(table: &[u8]) -> TableHead
         weight: table[3],
         slots: table[4],
     }
+}
+
+// How many gates a gate of a kind reads.
+fn arity(kind: u8) -> u8
+    ensures { λ r. ⌜ ((a b : ℕ) → take r (a ∷ b ∷ []) ≡ operandsOf kind a b) ⌝ }
+{
+    match kind {
+        1 => 0,
+        2 => 0,
+        3 => 2,
+        4 => 2,
+        5 => 1,
+        6 => 1,
+        7 => 2,
+        _ => 0,
+    }
+}
+
+// Enters a number for each gate that the gate reads whose record the bytes begin with.
+pub fn enter_operands(bytes: &[u8], number: u16, list: &mut [u16])
+    requires { ⌜ (8 ≤ length (now bytes)) × Every (λ i. i < length (now list)) (operandsAt (now bytes)) ⌝ }
+    ensures { λ _. ⌜ now (list .exit) ≡ entered number (operandsAt (now (bytes .entry))) (now (list .entry)) ⌝ }
+{
+    let n = arity(bytes[2]);
+    if n == 0 {
+        return;
+    }
+    let a = u16_at(bytes, 4);
+    list[a] = number;
+    if n == 1 {
+        return;
+    }
+    let b = u16_at(bytes, 6);
+    list[b] = number;
 }

@@ -1,4 +1,4 @@
--- What Run answers: Check's refusals, and which line of `running` the rules pick for a table that was read.
+-- What Run answers: the refusals of reading, and which line of `running` the rules pick for a table that was read.
 -- Assumes nothing.
 use mathlib.Core.Path.{_≡_, sym, ap, ap₂, _∙_}
 use mathlib.Core.Bool.{Bool, true, false}
@@ -9,27 +9,25 @@ use borrow.Author.Tests.{eq-eqb, ne-eqb, lt-ltb, le-ltb}
 use lib.Dec.{eqb}
 use lib.ListN.{length, drop, getD, List·getD-append}
 use Rattle.answer.specs.Outcome.{refused, accepted, Outcome, unaltered}
-use Rattle.answer.proofs.Outcome.{was-refused}
 use Rattle.digits.specs.Number.{allBelow}
 use Rattle.circuit.specs.Gate.{Gate}
 use Rattle.circuit.specs.Meaning.{entries}
-use Rattle.circuit.specs.Outcomes.{running, checking}
+use Rattle.circuit.specs.Outcomes.{running}
 use Rattle.circuit.specs.Reading.{headOf, reading}
-use Rattle.circuit.specs.Report.{report}
 use Rattle.circuit.specs.Table.{Head}
 use Rattle.circuit.proofs.Meaning.{interpret-length}
 use Rattle.circuit.proofs.Reading.{reads}
+use Rattle.records.specs.Read.{gatesRead}
+use Rattle.records.proofs.Read.{table-read, count-range, gates-read, long}
 use Rattle.runner.specs.Running.{valuesIn}
-use Rattle.checker.specs.Reporting.{gatesRead}
-use Rattle.checker.proofs.Outcomes.{table-read, count-range, gates-read, long}
 use Rattle.runner.proofs.Running.{algebra, allRead}
 
--- ---- a table that Check refuses
+-- ---- a table that is refused
 
-pub not-run : (bytes left right work : List ℕ) (n : ℕ) → refused n ≡ checking bytes → running bytes left right work ≡ unaltered work n
-not-run bytes left right work n e = rw (was-refused n (reading bytes) report e)
+pub not-run : (bytes left right work : List ℕ) (n : ℕ) → reading bytes ≡ refused n → running bytes left right work ≡ unaltered work n
+not-run bytes left right work n e = rw e
 
--- ---- a table that it accepts
+-- ---- a table that is accepted
 
 -- over its head, its gate count, and its slot count and prime as the code has them
 pub record Checked (bytes : List ℕ) (head : Head) (count slots p : ℕ) : Type 0 where

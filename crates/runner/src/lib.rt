@@ -1,6 +1,6 @@
 // Run.
 use answer::Refusal;
-use answer::Reported;
+use reader::TableRead;
 use records::RECORD;
 use records::TableHead;
 ghost use mathlib.Core.Path.{_≡_};
@@ -14,9 +14,9 @@ ghost use Rattle.circuit.specs.Outcomes.{running};
 ghost use Rattle.circuit.specs.Reading.{readFields, readGate, readGates, reading};
 ghost use Rattle.circuit.specs.Value.{values};
 ghost use Rattle.records.specs.Head.{headIs};
+ghost use Rattle.records.specs.Read.{gatesRead};
 ghost use Rattle.runner.specs.Ran.{runAnswer};
 ghost use Rattle.runner.specs.Running.{CanRun, valueIn, valuesIn};
-ghost use Rattle.checker.specs.Reporting.{gatesRead};
 
 // What Run answers.
 pub enum Ran {
@@ -133,8 +133,8 @@ pub fn run(table: &[u8], left: &[u8], right: &[u8], work: &mut [u8]) -> Ran
     ensures answers { λ r. ⌜ runAnswer r ≡ running (now (table .entry)) (now (left .entry)) (now (right .entry)) (now (work .entry)) .answer ⌝ }
     ensures leaves { λ r. ⌜ now (work .exit) ≡ running (now (table .entry)) (now (left .entry)) (now (right .entry)) (now (work .entry)) .lent ⌝ }
 {
-    match checker::check(table) {
-        Reported::Success(told) => run_checked(table, told.gates as usize, left, right, work),
-        Reported::Refused(why) => Ran::Refused(why),
+    match reader::read_table(table) {
+        TableRead::Read(told) => run_checked(table, told.gates as usize, left, right, work),
+        TableRead::Refused(why) => Ran::Refused(why),
     }
 }

@@ -9,12 +9,13 @@ use Rattle.field.specs.Primes.{primes, listed}
 use Rattle.field.specs.Sum.{sum, total}
 use Rattle.digits.specs.Number.{number, allBelow, digitsOf}
 use Rattle.circuit.specs.Constant.{code, signed}
-use Rattle.circuit.specs.Count.{counted, count}
+use Rattle.circuit.specs.Count.{repeated, distinct, counted, count}
 use Rattle.circuit.specs.Meaning.{interpret}
 use Rattle.circuit.specs.ProductTree.{least, multiply}
 use Rattle.circuit.specs.Reading.{readGates}
 use Rattle.circuit.specs.Sums.{laterSum}
 use Rattle.circuit.specs.Table.{gatesBytes}
+use Rattle.circuit.specs.Used.{needed, pick}
 use Rattle.comparison.specs.Bits.{ones}
 use Rattle.comparison.specs.Digits.{digitsFrom}
 use Rattle.comparison.specs.EqualityDigit.{chain}
@@ -26,7 +27,7 @@ use Rattle.query.specs.Whole.{addAll}
 use Rattle.starred.specs.Starred.{starred, StarredCases, FullRangeRun}
 
 pub starred-cases : StarredCases
-unfolding starred orderConstants listed member primes number sum allBelow digitsOf readConditions total addAll conditionBy orderSegment equalitySegment digitsFrom ascending powerGate code signed laterSum chain ones halves joinLowest equalityFactors multiply least flog clog counted count interpret gatesBytes readGates residue
+unfolding starred orderConstants listed member primes number sum allBelow digitsOf readConditions total addAll conditionBy orderSegment equalitySegment digitsFrom ascending powerGate code signed laterSum chain ones halves joinLowest equalityFactors multiply least flog clog needed pick repeated distinct counted count interpret gatesBytes readGates residue
 starred-cases = refl
 
 pub full-range-run : FullRangeRun

@@ -9,6 +9,7 @@ mod runs;
 mod score_cards;
 mod score_runs;
 mod tables;
+mod used_products;
 mod words;
 mod writer;
 
@@ -40,5 +41,6 @@ pub fn cases() -> String {
     words::write(&mut script);
     constants::write(&mut script);
     last_uses::write(&mut script);
+    used_products::write(&mut script);
     script.finish()
 }

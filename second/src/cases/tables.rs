@@ -300,7 +300,7 @@ fn chains(script: &mut Script) {
         products.push(gate(Kind::Mul, number + 1, number));
         doubled.push(gate(Kind::Add, number, number));
     }
-    // A deep gate that the last one does not use counts, but adds no depth.
+    // Deep gates that the last one does not use neither count nor add depth.
     let mut unused = squares.clone();
     unused.push(gate(Kind::Flip, 0, 0));
     // Depth goes through each kind.

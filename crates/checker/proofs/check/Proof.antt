@@ -1,56 +1,40 @@
--- `checker::check` meets its contract: the head's answer, then the gates'.
+-- `checker::check` meets its contract: the refusal of reading, or the report on the table that was read.
 -- Assumes nothing.
-use mathlib.Core.Path.{_≡_, sym, ap, _∙_}
-use mathlib.Core.List.{List}
-use Prim.Native.Nat.{ℕ}
-use native.Mathlib.Omega.{arith}
+use mathlib.Core.Path.{sym, ap, _∙_}
 use borrow.Author.Needs.{needs}
-use Rattle.answer.specs.Outcome.{accepted}
-use Rattle.circuit.specs.Reading.{readHead}
-use Rattle.records.specs.Head.{headIs}
-use Rattle.checker.specs.HeadAnswer.{headAnswer}
-use Rattle.checker.proofs.Outcomes.{counted, head-refused, gates-checked}
+use Rattle.reader.specs.Outline.{tableAnswer}
+use Rattle.checker.proofs.Outcomes.{not-reported}
 use Rattle.checker.proofs.check.Statement.{statement}
 use Rattle.checker.proofs.check.Tie as tie
 
-abbrev bytes : tie.After-read-head → List ℕ
-bytes c = c .before .before .args .table .now
+read-table-requires : tie.Need-read-table-requires
+read-table-requires c κs = search needs
 
--- the head that was read
-passes : (c : tie.After-head) → readHead (bytes (c .before .before)) ≡ accepted (headIs (c .head .given .0 .0))
-passes c = sym (c .before .before .read-head .ensures) ∙ ap headAnswer (c .head .given .1)
+enum-known-told : tie.Need-enum-known-told
+enum-known-told c = search needs
 
-read-head-requires : tie.Need-read-head-requires
-read-head-requires c κs = search needs
-
-enum-known-head : tie.Need-enum-known-head
-enum-known-head c = search needs
-
-u16-at-requires : tie.Need-u16-at-requires
-u16-at-requires c κs = omega (arith, counted (bytes (c .before .before .before)) _ (passes (c .before)) .2)
-
-check-after-requires : tie.Need-check-after-requires
-check-after-requires c κs = rw (c .u16-at .ensures .0) (counted (bytes (c .before .before .before .before)) _ (passes (c .before .before)))
+report-on-requires : tie.Need-report-on-requires
+report-on-requires c κs =
+    let t = c .before in sym (ap tableAnswer (t .told .given .1)) ∙ t .before .before .read-table .ensures
 
 enum-known-why : tie.Need-enum-known-why
 enum-known-why c = search needs
 
 returns : tie.Need-returns
-returns c =
-    rw (c .before .u16-at .ensures .0) at (c .check-after .ensures) ∙ gates-checked (bytes (c .before .before .before .before .before)) _ (passes (c .before .before .before))
+returns c = search needs
 
 returns-2 : tie.Need-returns-2
 returns-2 c =
-    let r = c .before .before .before in head-refused (bytes r) _ (sym (r .read-head .ensures) ∙ ap headAnswer (c .before .why .given .1))
+    let r = c .before .before .before in
+    not-reported (r .before .before .args .table .now) _ (sym (ap tableAnswer (c .before .why .given .1)) ∙ r .read-table .ensures)
 
 pub check-spec : {M : Type 1} → statement M
 check-spec =
     tie.close
     (tie.spec
-    read-head-requires
-    enum-known-head
-    u16-at-requires
-    check-after-requires
+    read-table-requires
+    enum-known-told
+    report-on-requires
     enum-known-why
     returns
     returns-2)

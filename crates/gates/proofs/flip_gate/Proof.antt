@@ -12,26 +12,15 @@ returns c = search (le-ltb)
 returns-2 : tie.Need-returns-2
 returns-2 c = rw (ne-eqb _ _ (c .if2 .taken), and-false)
 
-mul-linear-at : tie.Need-mul-linear-at
-mul-linear-at c = search needs
+mul-t4 : tie.Need-mul-t4
+mul-t4 c = search needs
 
-shared-slice-read-linear-at : tie.Need-shared-slice-read-linear-at
-shared-slice-read-linear-at c = search needs
-
-linear-at-requires : tie.Need-linear-at-requires
-linear-at-requires c κs = search needs
+shared-slice-read-t9 : tie.Need-shared-slice-read-t9
+shared-slice-read-t9 c = search needs
 
 returns-3 : tie.Need-returns-3
 returns-3 c =
-    let e = c .before .before in rw (lt-ltb _ _ (e .before .if1 .left), eq-eqb _ _ (e .if2 .left)) (c .linear-at .ensures)
+    let e = c .before in rw (lt-ltb _ _ (e .before .if1 .left), eq-eqb _ _ (e .if2 .left))
 
 pub flip-gate-spec : {M : Type 1} → statement M
-flip-gate-spec =
-    tie.close
-    (tie.spec
-    returns
-    returns-2
-    mul-linear-at
-    shared-slice-read-linear-at
-    linear-at-requires
-    returns-3)
+flip-gate-spec = tie.close (tie.spec returns returns-2 mul-t4 shared-slice-read-t9 returns-3)

@@ -51,8 +51,8 @@ u16-at-requires c κs = search needs
 u16-at-requires-2 : tie.Need-u16-at-requires-2
 u16-at-requires-2 c κs = search needs
 
-add-gate-requires : tie.Need-add-gate-requires
-add-gate-requires c κs = search needs
+gate-depth-requires : tie.Need-gate-depth-requires
+gate-depth-requires c κs = search needs
 
 enum-known-why : tie.Need-enum-known-why
 enum-known-why c = search needs
@@ -61,7 +61,7 @@ returns : tie.Need-returns
 returns c =
     let s = c .before .before .before in
     rw (by-verdict (s .before .before .before) _ (s .before .kind .given .1))
-    (rw (c .before .before .u16-at .ensures .0, c .before .u16-at2 .ensures .0) at (c .add-gate .ensures))
+    (rw (c .before .before .u16-at .ensures .0, c .before .u16-at2 .ensures .0) at (c .gate-depth .ensures))
 
 returns-2 : tie.Need-returns-2
 returns-2 c = rw (by-verdict (c .before .before .before) _ (c .before .why .given .1))
@@ -75,7 +75,7 @@ read-gate-spec =
     enum-known-kind
     u16-at-requires
     u16-at-requires-2
-    add-gate-requires
+    gate-depth-requires
     enum-known-why
     returns
     returns-2)

@@ -16,29 +16,19 @@ is-constant-requires c κs = search needs
 returns-2 : tie.Need-returns-2
 returns-2 c = rw (sym (c .before .is-constant .ensures) ∙ not-true _ (c .if2 .taken), and-false)
 
-mul-linear-at : tie.Need-mul-linear-at
-mul-linear-at c = search needs
+mul-t5 : tie.Need-mul-t5
+mul-t5 c = search needs
 
-shared-slice-read-linear-at : tie.Need-shared-slice-read-linear-at
-shared-slice-read-linear-at c = search needs
-
-linear-at-requires : tie.Need-linear-at-requires
-linear-at-requires c κs = search needs
+shared-slice-read-t11 : tie.Need-shared-slice-read-t11
+shared-slice-read-t11 c = search needs
 
 returns-3 : tie.Need-returns-3
 returns-3 c =
-    let t = c .before .before in
+    let t = c .before in
     let e = t .before in
-    rw (lt-ltb _ _ (e .before .if1 .left), sym (e .is-constant .ensures) ∙ not-false _ (t .if2 .left)) (c .linear-at .ensures)
+    rw (lt-ltb _ _ (e .before .if1 .left), sym (e .is-constant .ensures) ∙ not-false _ (t .if2 .left))
 
 pub scale-gate-spec : {M : Type 1} → statement M
 scale-gate-spec =
     tie.close
-    (tie.spec
-    returns
-    is-constant-requires
-    returns-2
-    mul-linear-at
-    shared-slice-read-linear-at
-    linear-at-requires
-    returns-3)
+    (tie.spec returns is-constant-requires returns-2 mul-t5 shared-slice-read-t11 returns-3)

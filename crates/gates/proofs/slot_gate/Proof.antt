@@ -2,7 +2,6 @@
 -- Assumes nothing.
 use mathlib.Core.Bool.{and-false}
 use native.Mathlib.Omega.{arith}
-use borrow.Author.Needs.{needs}
 use borrow.Author.Tests.{lt-ltb, le-ltb, eq-eqb, ne-eqb}
 use Rattle.gates.proofs.slot_gate.Statement.{statement}
 use Rattle.gates.proofs.slot_gate.Tie as tie
@@ -13,12 +12,9 @@ returns c = let a = c .before .args in rw (le-ltb (a .a) (a .slots) (omega arith
 returns-2 : tie.Need-returns-2
 returns-2 c = rw (ne-eqb _ _ (c .if2 .taken), and-false)
 
-linear-at-requires : tie.Need-linear-at-requires
-linear-at-requires c κs = search needs
-
 returns-3 : tie.Need-returns-3
 returns-3 c =
-    let e = c .before in rw (lt-ltb _ _ (e .before .if1 .left), eq-eqb _ _ (e .if2 .left)) (c .linear-at .ensures)
+    rw (lt-ltb _ _ (c .before .if1 .left), eq-eqb _ _ (c .if2 .left))
 
 pub slot-gate-spec : {M : Type 1} → statement M
-slot-gate-spec = tie.close (tie.spec returns returns-2 linear-at-requires returns-3)
+slot-gate-spec = tie.close (tie.spec returns returns-2 returns-3)

@@ -30,14 +30,10 @@ shared-slice-read-deeper-2 c = search needs
 deeper-requires : tie.Need-deeper-requires
 deeper-requires c κs = search needs
 
-linear-at-requires : tie.Need-linear-at-requires
-linear-at-requires c κs = search needs
-
 returns-3 : tie.Need-returns-3
 returns-3 c =
-    let d = c .before in
-    let e = d .before .before .before in
-    rw (lt-ltb _ _ (e .before .if1 .left), lt-ltb _ _ (e .if2 .left)) (rw (d .deeper .ensures) at (c .linear-at .ensures))
+    let e = c .before .before .before in
+    rw (lt-ltb _ _ (e .before .if1 .left), lt-ltb _ _ (e .if2 .left)) (rw (c .deeper .ensures))
 
 pub sum-gate-spec : {M : Type 1} → statement M
 sum-gate-spec =
@@ -50,5 +46,4 @@ sum-gate-spec =
     mul-deeper-2
     shared-slice-read-deeper-2
     deeper-requires
-    linear-at-requires
     returns-3)

@@ -8,7 +8,7 @@ use borrow.Author.Needs.{needs}
 use lib.ListN.{length}
 use Rattle.circuit.specs.Table.{mostGates}
 use Rattle.records.proofs.Records.{lent-long}
-use Rattle.checker.proofs.Outcomes.{long, count-range}
+use Rattle.records.proofs.Read.{long, count-range}
 use Rattle.liveness.proofs.Entering.{Entering, begin, within, same-size, turn, ended}
 use Rattle.liveness.proofs.enter_uses.Statement.{statement}
 use Rattle.liveness.proofs.enter_uses.Tie as tie

@@ -8,7 +8,7 @@ use borrow.Author.Tests.{not-true, not-false}
 use Rattle.answer.proofs.Outcome.{said}
 use Rattle.digits.specs.Number.{allBelow}
 use Rattle.records.specs.Head.{headIs}
-use Rattle.checker.proofs.Outcomes.{long}
+use Rattle.records.proofs.Read.{long}
 use Rattle.runner.proofs.RunOutcome.{Checked, checked, left-length, right-length, left-value, right-value, work-short, ran}
 use Rattle.runner.proofs.run_checked.Statement.{statement}
 use Rattle.runner.proofs.run_checked.Tie as tie
