@@ -6,6 +6,9 @@ use second::field::PRIMES;
 use second::table::{Gate, Head, Kind};
 use second::{answers, build, cases, check, forecast, last_uses, trim, Random};
 
+mod replay;
+use replay::each_question;
+
 /// The gates that a record reads: "3 ADD a+b; 4 SUB a-b; 5 SCALE gate a times
 /// constant b; 6 FLIP 1-a; 7 MUL a times b", and slots are no gates.
 fn reads(record: &[u8]) -> Vec<usize> {
@@ -228,40 +231,17 @@ struct Asked<'a> {
 /// These lines, each with the table that the lines before it have made.
 fn asked<'a>(script: &str, text: &'a str) -> Vec<Asked<'a>> {
     let mut answers = text.lines().filter(|line| line.starts_with("last_uses "));
-    let mut area = vec![7; 65_600];
-    let mut length = 0;
     let mut asked = Vec::new();
-    for line in script.lines() {
-        let words: Vec<&str> = line.split(' ').collect();
-        let number = |place: usize| words[place].parse::<usize>().unwrap();
-        match words[0] {
-            "build" => {
-                length = number(1);
-                // Refused or not: what is in the area then is all that counts.
-                let _ = build(&bytes(words[2]), &mut area[..length]);
-            }
-            "table" => {
-                let table = bytes(words[1]);
-                length = table.len();
-                area[..length].copy_from_slice(&table);
-            }
-            "set" => area[number(1)] = number(2) as u8,
-            "cut" => length = number(1),
-            "last_uses" => asked.push(Asked {
-                table: area[..length].to_vec(),
-                room: number(1),
+    each_question(script, |words, table| {
+        if words[0] == "last_uses" {
+            asked.push(Asked {
+                table: table.to_vec(),
+                room: words[1].parse().unwrap(),
                 answer: answers.next().unwrap().split_once(": ").unwrap().1,
-            }),
-            _ => {}
+            });
         }
-    }
+    });
     asked
-}
-
-fn bytes(word: &str) -> Vec<u8> {
-    (0..word.len() / 2)
-        .map(|i| u8::from_str_radix(&word[2 * i..2 * i + 2], 16).unwrap())
-        .collect()
 }
 
 /// The lent entries as an answer has them.

@@ -6,6 +6,9 @@ use second::field::PRIMES;
 use second::table::{Gate, Head, Kind};
 use second::{answers, build, cases, check, forecast, last_uses, run, trim, Random, Report};
 
+mod replay;
+use replay::each_question;
+
 /// The gates that a record reads: "3 ADD a+b; 4 SUB a-b; 5 SCALE gate a times
 /// constant b; 6 FLIP 1-a; 7 MUL a times b", and slots are no gates.
 fn reads(record: &[u8]) -> Vec<usize> {
@@ -607,44 +610,19 @@ fn built_tables_use_all_products() {
 /// answer.
 fn asked<'a>(script: &str, text: &'a str) -> Vec<(Vec<u8>, &'a str)> {
     let mut answers = text.lines().filter_map(|line| line.strip_prefix("check: "));
-    let mut area = vec![7; 65_600];
-    let mut length = 0;
     let mut asked = Vec::new();
-    for line in script.lines() {
-        let words: Vec<&str> = line.split(' ').collect();
-        let number = |place: usize| words[place].parse::<usize>().unwrap();
-        match words[0] {
-            "build" => {
-                length = number(1);
-                // Refused or not: what is in the area then is all that counts.
-                let _ = build(&bytes(words[2]), &mut area[..length]);
+    each_question(script, |words, lent| {
+        if words[0] == "check" {
+            let answer = answers.next().unwrap();
+            let table = trim(lent);
+            assert_eq!(table.is_empty(), answer.starts_with("refused "));
+            if !table.is_empty() {
+                asked.push((table.to_vec(), answer));
             }
-            "table" => {
-                let table = bytes(words[1]);
-                length = table.len();
-                area[..length].copy_from_slice(&table);
-            }
-            "set" => area[number(1)] = number(2) as u8,
-            "cut" => length = number(1),
-            "check" => {
-                let answer = answers.next().unwrap();
-                let table = trim(&area[..length]);
-                assert_eq!(table.is_empty(), answer.starts_with("refused "));
-                if !table.is_empty() {
-                    asked.push((table.to_vec(), answer));
-                }
-            }
-            _ => {}
         }
-    }
+    });
     assert_eq!(answers.next(), None);
     asked
-}
-
-fn bytes(word: &str) -> Vec<u8> {
-    (0..word.len() / 2)
-        .map(|i| u8::from_str_radix(&word[2 * i..2 * i + 2], 16).unwrap())
-        .collect()
 }
 
 /// Each answer of the script is what the sentence says of its table.
