@@ -21,3 +21,10 @@ pub record Countable (table : List ℕ) (count : ℕ) : Type 0 where
   pub many : length (gatesOf table) ≡ count
   pub some : 1 ≤ count
   pub most : count ≤ mostGates
+
+-- the most gates of a small table, and of one of middle size, for which lists are quickly cleared
+abbrev pub smallTable : ℕ
+smallTable = 256
+
+abbrev pub middleTable : ℕ
+middleTable = 2048

@@ -20,7 +20,7 @@ ghost use Rattle.circuit.specs.Reading.{reading};
 ghost use Rattle.circuit.specs.Used.{onlyIf, used};
 ghost use Rattle.records.specs.Operands.{entered};
 ghost use Rattle.records.specs.Read.{gatesRead, gatesIn};
-ghost use Rattle.counter.specs.Gates.{gatesOf, gateAt, Countable};
+ghost use Rattle.counter.specs.Gates.{gatesOf, gateAt, Countable, smallTable, middleTable};
 ghost use Rattle.counter.specs.Pairs.{lower, higher, lowers, different};
 ghost use Rattle.counter.specs.Marks.{Markable, UsedMarked};
 ghost use Rattle.counter.specs.Chains.{isLinked, startsAfter, nextAfter, Linkable, Linked, Walkable, Walked, ChainsCountable};
@@ -193,7 +193,7 @@ fn count_in(
 
 // The counts of a small table.
 fn count_small(table: &[u8], count: usize) -> Counts
-    requires { ⌜ Countable (now table) count × (count ≤ 256) ⌝ }
+    requires { ⌜ Countable (now table) count × (count ≤ smallTable) ⌝ }
     ensures { λ r. ⌜ CountsOf (gatesOf (now (table .entry))) r ⌝ }
 {
     let mut marks = [0u16; SMALL];
@@ -204,7 +204,7 @@ fn count_small(table: &[u8], count: usize) -> Counts
 
 // The counts of a table of middle size.
 fn count_middle(table: &[u8], count: usize) -> Counts
-    requires { ⌜ Countable (now table) count × (count ≤ 2048) ⌝ }
+    requires { ⌜ Countable (now table) count × (count ≤ middleTable) ⌝ }
     ensures { λ r. ⌜ CountsOf (gatesOf (now (table .entry))) r ⌝ }
 {
     let mut marks = [0u16; MIDDLE];
