@@ -6,23 +6,10 @@ use second::field::PRIMES;
 use second::table::{Gate, Head, Kind};
 use second::{answers, build, cases, check, forecast, last_uses, run, trim, Random, Report};
 
+mod record;
 mod replay;
+use record::{operands, reads};
 use replay::each_question;
-
-/// The gates that a record reads: "3 ADD a+b; 4 SUB a-b; 5 SCALE gate a times
-/// constant b; 6 FLIP 1-a; 7 MUL a times b", and slots are no gates.
-fn reads(record: &[u8]) -> Vec<usize> {
-    let [a, b] = operands(record);
-    match record[2] {
-        3 | 4 | 7 => vec![a, b],
-        5 | 6 => vec![a],
-        _ => vec![],
-    }
-}
-
-fn operands(record: &[u8]) -> [usize; 2] {
-    [4, 6].map(|place| usize::from(record[place]) + 256 * usize::from(record[place + 1]))
-}
 
 /// The records of a table, which is given without later bytes.
 fn records(table: &[u8]) -> Vec<&[u8]> {
