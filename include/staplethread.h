@@ -1,7 +1,8 @@
 /* Staplethread for C and C++: query cards, gate tables and digits.
  *
  * The rules are those of document 01, "The query builder and its exact rules", and of scored queries,
- * of constants near zero and of last-use lists those of document 02.
+ * of constants near zero, of last-use lists, of products that nothing uses and of two conditions over
+ * the same field those of document 02.
  *
  * A list is a pointer, then its length: in bytes, or of a last-use list in entries of two bytes.
  * Pointers are not null, not even those of empty lists. What a call writes overlaps nothing else that
@@ -70,6 +71,11 @@ uint8_t staplethread_decode(uint8_t p, const uint8_t *digits, size_t digits_leng
  * A score card asks for the sum of the weights of the conditions that hold. Its head has the mark
  * 0xC5 0x53, its condition records have 6 bytes: mark 0xC5 0x57, relation, n, weight (1 to p-1),
  * spare 0. The weights of all conditions together are below p.
+ *
+ * A shared card asks whether all conditions hold, and its conditions may be over the same left slots.
+ * Its head has the mark 0xC5 0x4A, its condition records have 6 bytes: mark 0xC5 0x52, relation, n,
+ * first left slot, spare 0. The first left slot plus n is at most 16; left slots may be shared,
+ * overlap or be left out. Each condition takes the next n right slots, N in all.
  */
 
 /* Forecast: the report on the card's table, from the card only.
@@ -79,15 +85,16 @@ uint8_t staplethread_decode(uint8_t p, const uint8_t *digits, size_t digits_leng
  *  4  s not 50 to 100
  *  5  spare not 0
  *  6  c not 1 to 8
- *  7  length not 6+4c, or 6+6c of a score card
+ *  7  length not 6+4c, or 6+6c of a score card and of a shared card
  *     then by condition
  *  2  mark
  *  8  relation not 1 to 6
  *  9  n not 1 to 16
  * 25  of a score card: weight 0, or p and more
- *  5  of a score card: spare not 0
+ * 28  of a shared card: first left slot plus n above 16
+ *  5  of a score card and of a shared card: spare not 0
  *     then
- * 10  N over 16
+ * 10  N over 16, of a shared card the right slots
  * 26  of a score card: total weight p or more */
 uint8_t staplethread_forecast(const uint8_t *card, size_t card_length,
                               uint16_t *gates, uint16_t *products, uint16_t *squares,
@@ -103,9 +110,14 @@ uint8_t staplethread_build(const uint8_t *card, size_t card_length,
 
 /* ---- Gate tables
  *
- * A table has 8(G+1) bytes. Later bytes are not looked at. The b of a SCALE is its constant: a signed
- * number of 16 bits, two's complement, from -(p-1)/2 to (p-1)/2. A table that was kept from before
- * constants had signs, with a constant above (p-1)/2, is refused with 17; build it anew.
+ * A table has 8(G+1) bytes. Later bytes are not looked at. Its head has the mark 0x47 0x48, and both
+ * sides have as many slots as byte 4 says, N; byte 5 is spare. The table of a shared card has the mark
+ * 0x47 0x4A in its head: byte 4 is the left slot count, the highest left slot that is used plus 1, and
+ * byte 5 the right slot count, N.
+ *
+ * The b of a SCALE is its constant: a signed number of 16 bits, two's complement, from -(p-1)/2 to
+ * (p-1)/2. A table that was kept from before constants had signs, with a constant above (p-1)/2, is
+ * refused with 17; build it anew.
  */
 
 /* Check: the report on a table. Products, squares and cost count the MULs among the output and the
@@ -115,15 +127,16 @@ uint8_t staplethread_build(const uint8_t *card, size_t card_length,
  *  2  head mark
  *  3  p not one of the odd primes from 3 to 251
  *  4  s not 50 to 100
- * 13  N not 1 to 16
- *  5  spare not 0
+ * 13  N, or one of two slot counts, not 1 to 16
+ *  5  spare not 0; a head with two slot counts has none
  * 14  G not 1 to 8191
  * 15  under 8(G+1) bytes
  *     then by gate
  *  2  mark
  *  5  spare not 0
  * 16  kind not 1 to 7
- * 17  an operand against its kind */
+ * 17  an operand against its kind: a slot against its side's count, a gate that is not a lower one, a
+ *     constant out of range, or a b other than 0 where the kind has none */
 uint8_t staplethread_check(const uint8_t *table, size_t table_length,
                            uint16_t *gates, uint16_t *products, uint16_t *squares,
                            uint32_t *cost, uint16_t *depth);
@@ -134,10 +147,10 @@ size_t staplethread_trim(const uint8_t *table, size_t table_length);
 
 /* Run: the table on a record (left) and a query (right), in the clear. The first G bytes of work then
  * hold the gate values, later ones are kept; output is the last gate's. For a table that Build wrote
- * and digits below B it is, of a plain card, 1 where all conditions hold and 0 otherwise; of a score
- * card, the sum of the weights of those that hold.
+ * and digits below B it is, of a plain or a shared card, 1 where all conditions hold and 0 otherwise;
+ * of a score card, the sum of the weights of those that hold.
  * Refuses as Check does, then
- * 18  left or right list not N long
+ * 18  left or right list not as long as its side has slots
  * 19  a value of p or more
  * 20  work under G bytes */
 uint8_t staplethread_run(const uint8_t *table, size_t table_length,

@@ -1,7 +1,7 @@
 //! Times the proved library against the second program, both built for release, on the same
 //! inputs in one run, and prints a table of ratios. No buffer is cleared between calls.
 
-use second::card::{card_bytes, score_card_bytes};
+use second::card::{card_bytes, score_card_bytes, shared_card_bytes};
 use std::hint::black_box;
 use std::time::Instant;
 
@@ -68,8 +68,8 @@ fn rows(name: &'static str, card: &[u8]) -> Vec<Row> {
         &mut || keep(staplethread::check(black_box(&table))),
         &mut || keep(second::check(black_box(&table))),
     );
-    let slots = usize::from(table[4]);
-    let (left, right) = (vec![1; slots], vec![0; slots]);
+    let counts = shapes::slot_counts(&table);
+    let (left, right) = (vec![1; counts.0.into()], vec![0; counts.1.into()]);
     let (mut work, mut values) = (vec![0; gates], vec![0; gates]);
     let run = compare(
         calls,
@@ -170,6 +170,10 @@ fn main() {
         (
             "the same with weights 5, 3, 2",
             score_card_bytes(31, 80, &[(4, 3, 5), (3, 1, 3), (5, 2, 2)]),
+        ),
+        (
+            "the same over left slots 0, 1, 0",
+            shared_card_bytes(31, 80, &[(4, 3, 0), (3, 1, 1), (5, 2, 0)]),
         ),
         ("p=251, < of 16", card_bytes(251, 100, &[(1, 16)])),
     ];

@@ -1,6 +1,7 @@
 //! "Distance at least 20 m, grade worse than 3": a question, its table, and the answer for two
-//! records; then "how bad is this stretch?", a score over the same two conditions. Plain digits
-//! stand where the runner has ciphertexts, and how many of these it has to hold at once is printed.
+//! records; then "how bad is this stretch?", a score over the same two conditions; then "between 20
+//! and 40 m", two conditions over one distance. Plain digits stand where the runner has
+//! ciphertexts, and how many of these it has to hold at once is printed.
 
 use staplethread::{build, encode, forecast, last_uses, run, Refusal};
 
@@ -17,10 +18,23 @@ const SCORE_CARD: [u8; 18] = [
     0xC5, 0x53, P, 75, 2, 0, 0xC5, 0x57, 4, 3, 5, 0, 0xC5, 0x57, 3, 1, 3, 0,
 ];
 
-/// The slots of one side: the distance's digits, then the grade's.
-fn slots(distance: u64, grade: u64) -> Result<[u8; 4], Refusal> {
-    let mut digits = [0; DISTANCE_DIGITS + GRADE_DIGITS];
-    encode(P, DISTANCE_DIGITS, distance, &mut digits[..DISTANCE_DIGITS])?;
+/// Left at least the first number of the query (4) and at most the second (2): both conditions are
+/// over the left slots from 0 on.
+const RANGE_CARD: [u8; 18] = [
+    0xC5, 0x4A, P, 75, 2, 0, 0xC5, 0x52, 4, 3, 0, 0, 0xC5, 0x52, 2, 3, 0, 0,
+];
+
+/// The digits of a distance.
+fn distance(metres: u64) -> Result<Vec<u8>, Refusal> {
+    let mut digits = vec![0; DISTANCE_DIGITS];
+    encode(P, DISTANCE_DIGITS, metres, &mut digits)?;
+    Ok(digits)
+}
+
+/// The slots of one side: a distance's digits, then a grade's.
+fn distance_and_grade(metres: u64, grade: u64) -> Result<Vec<u8>, Refusal> {
+    let mut digits = distance(metres)?;
+    digits.resize(DISTANCE_DIGITS + GRADE_DIGITS, 0);
     encode(P, GRADE_DIGITS, grade, &mut digits[DISTANCE_DIGITS..])?;
     Ok(digits)
 }
@@ -31,28 +45,59 @@ fn most_held(list: &[u16]) -> usize {
     (0..list.len()).map(held).max().unwrap_or(0)
 }
 
-/// Builds the card's table and runs it on each record, a distance and a grade.
-fn ask(card: &[u8], records: &[(u64, u64)]) -> Result<(), Refusal> {
-    let report = forecast(card)?;
-    println!(
-        "depth {} levels, cost {} hundredths",
-        report.depth.0, report.cost.0
-    );
-    let mut table = vec![0; report.table_bytes()];
-    build(card, &mut table)?;
-    let mut list = vec![0; usize::from(report.gates)];
-    let gates = last_uses(&table, &mut list)?;
-    println!("held at once: at most {} of {gates}", most_held(&list));
-    let mut work = vec![0; usize::from(report.gates)];
-    let query = slots(20, 3)?;
-    for &(distance, grade) in records {
-        let output = run(&table, &slots(distance, grade)?, &query, &mut work)?;
-        println!("distance {distance} m, grade {grade}: {output}");
+/// A question that is ready to be asked of any record: its table, and work bytes to run it in.
+struct Question {
+    table: Vec<u8>,
+    work: Vec<u8>,
+}
+
+impl Question {
+    /// The table of a card.
+    fn build(card: &[u8]) -> Result<Question, Refusal> {
+        let report = forecast(card)?;
+        println!(
+            "depth {} levels, cost {} hundredths",
+            report.depth.0, report.cost.0
+        );
+        let mut table = vec![0; report.table_bytes()];
+        build(card, &mut table)?;
+        let mut list = vec![0; usize::from(report.gates)];
+        let gates = last_uses(&table, &mut list)?;
+        println!("held at once: at most {} of {gates}", most_held(&list));
+        let work = vec![0; usize::from(report.gates)];
+        Ok(Question { table, work })
+    }
+
+    /// The output for a record and a query.
+    fn ask(&mut self, record: &[u8], query: &[u8]) -> Result<u8, Refusal> {
+        run(&self.table, record, query, &mut self.work)
+    }
+}
+
+/// The card's answers for records of a distance and a grade.
+fn stretches(card: &[u8], records: &[(u64, u64)]) -> Result<(), Refusal> {
+    let mut question = Question::build(card)?;
+    let query = distance_and_grade(20, 3)?;
+    for &(metres, grade) in records {
+        let output = question.ask(&distance_and_grade(metres, grade)?, &query)?;
+        println!("distance {metres} m, grade {grade}: {output}");
+    }
+    Ok(())
+}
+
+/// Whether distances are from 20 to 40 m: each is sent once, the query has both ends.
+fn between(distances: &[u64]) -> Result<(), Refusal> {
+    let mut question = Question::build(&RANGE_CARD)?;
+    let query = [distance(20)?, distance(40)?].concat();
+    for &metres in distances {
+        let output = question.ask(&distance(metres)?, &query)?;
+        println!("distance {metres} m: {output}");
     }
     Ok(())
 }
 
 fn main() -> Result<(), Refusal> {
-    ask(&CARD, &[(34, 4), (12, 5)])?;
-    ask(&SCORE_CARD, &[(34, 4), (12, 5), (34, 2), (12, 1)])
+    stretches(&CARD, &[(34, 4), (12, 5)])?;
+    stretches(&SCORE_CARD, &[(34, 4), (12, 5), (34, 2), (12, 1)])?;
+    between(&[19, 20, 34, 40, 41])
 }

@@ -1,9 +1,13 @@
 //! The query builder for encrypted records: eight operations of a proved library, called safely.
 //!
 //! Every function answers for all inputs. A refusal is the rules' number and nothing else, and
-//! leaves every lent byte and entry as it was. A card is a plain one, which asks for a yes or no, or a score
-//! card, which asks for the sum of the weights of the conditions that hold; `build` and `forecast`
-//! take both.
+//! leaves every lent byte and entry as it was. A card is a plain one, which asks for a yes or no, a score
+//! card, which asks for the sum of the weights of the conditions that hold, or a shared card, which
+//! asks for a yes or no and whose conditions may be over the same left slots; `build` and `forecast`
+//! take all three.
+//!
+//! The head of a shared card's table has a slot count for each side, byte 4 the left one and byte 5 the
+//! right one; that of any other has one for both, byte 4. `run` takes lists of these lengths.
 //!
 //! The b of a SCALE in a table is its constant: a signed number of 16 bits, two's complement, from
 //! -(p-1)/2 to (p-1)/2. A table that was kept from before constants had signs, with one above
@@ -173,7 +177,8 @@ pub fn trim(table: &[u8]) -> &[u8] {
     &table[..length]
 }
 
-/// The values of all gates at the start of `work`; the answer is the output's.
+/// The values of all gates at the start of `work`; the answer is the output's. Each list is as long as
+/// the table's head says for its side.
 pub fn run(table: &[u8], left: &[u8], right: &[u8], work: &mut [u8]) -> Result<u8, Refusal> {
     let mut output = 0;
     accepted(run_into(table, left, right, work, &mut output), output)

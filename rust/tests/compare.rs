@@ -5,7 +5,9 @@
 //! STAPLETHREAD_ROUNDS sets how many rounds each test takes, but for `each_word` and
 //! `each_constant`, which take each word, and each b of a SCALE at each prime, once.
 
-use second::card::{card_bytes, score_card_bytes, Card, Form, SCORE_HEAD_MARK};
+use second::card::{
+    card_bytes, score_card_bytes, shared_card_bytes, Card, Form, SCORE_HEAD_MARK, SHARED_HEAD_MARK,
+};
 use second::Random;
 use std::collections::BTreeMap;
 use std::fmt::Debug;
@@ -120,12 +122,12 @@ fn prime(random: &mut Random) -> u8 {
     }
 }
 
-/// A card of either form.
+/// A card of any form.
 fn card(random: &mut Random) -> Vec<u8> {
-    if rarely(random, 2) {
-        score_card(random)
-    } else {
-        plain_card(random)
+    match random.below(3) {
+        0 => score_card(random),
+        1 => shared_card(random),
+        _ => plain_card(random),
     }
 }
 
@@ -165,6 +167,31 @@ fn score_card(random: &mut Random) -> Vec<u8> {
     score_card_bytes(p, square_weight(random), &conditions)
 }
 
+/// A shared card that is accepted but for a digit count of more than 16 in all, or left slots
+/// beyond the last one. Most first slots are low, so that conditions share slots or overlap.
+fn shared_card(random: &mut Random) -> Vec<u8> {
+    let count = 1 + random.byte_below(8);
+    let conditions: Vec<_> = (0..count)
+        .map(|_| {
+            let (relation, digits) = condition(random, count);
+            (relation, digits, first_slot(random, digits))
+        })
+        .collect();
+    shared_card_bytes(prime(random), square_weight(random), &conditions)
+}
+
+/// A first left slot for so many digits: one of the first, any that leaves room for them, the last
+/// such, or now and then one too high.
+fn first_slot(random: &mut Random, digits: u8) -> u8 {
+    let last = 16 - digits;
+    match random.below(32) {
+        0 => last + 1,
+        1..=3 => last,
+        4..=11 => random.byte_below(last + 1),
+        _ => random.byte_below(3).min(last),
+    }
+}
+
 /// Weights of 1 and more. Where p has room for so many, their total is below p; sometimes it is
 /// just p-1, and now and then p.
 fn condition_weights(random: &mut Random, p: u8, count: u8) -> Vec<u8> {
@@ -188,7 +215,7 @@ fn condition_weights(random: &mut Random, p: u8, count: u8) -> Vec<u8> {
 fn odd_byte(random: &mut Random) -> u8 {
     match random.below(3) {
         0 => random.pick(&[0, 1, 2, 6, 7, 8, 9, 16, 17, 49, 50, 100, 101, 249, 251, 255]),
-        1 => random.pick(&[0x47, 0x48, 0x54, 0xC5, 0x51, 0x53, 0x57]),
+        1 => random.pick(&[0x47, 0x48, 0x4A, 0x54, 0xC5, 0x51, 0x52, 0x53, 0x57]),
         _ => random.next_u64() as u8,
     }
 }
@@ -212,6 +239,7 @@ fn damage(random: &mut Random, bytes: &mut Vec<u8>) {
         1 => bytes.push(odd_byte(random)),
         2 => bytes.extend_from_slice(&[0xC5, 0x51, 1, 1]),
         3 => bytes.extend_from_slice(&[0xC5, 0x57, 1, 1, 1, 0]),
+        4 => bytes.extend_from_slice(&[0xC5, 0x52, 1, 1, 0, 0]),
         _ => {}
     }
 }
@@ -230,8 +258,9 @@ fn room(random: &mut Random, needed: usize) -> usize {
 #[test]
 fn cards() {
     let mut random = Random::new(1);
-    // What came up by cards with a score card's head mark, and by all others.
+    // What came up by cards with a score card's head mark, a shared card's, and by all others.
     let mut scores = (Seen::default(), Seen::default());
+    let mut shared = (Seen::default(), Seen::default());
     let mut others = (Seen::default(), Seen::default());
     for _ in 0..rounds() {
         let mut card = card(&mut random);
@@ -240,6 +269,8 @@ fn cards() {
         }
         let (forecast, built) = if card.starts_with(&SCORE_HEAD_MARK) {
             &mut scores
+        } else if card.starts_with(&SHARED_HEAD_MARK) {
+            &mut shared
         } else {
             &mut others
         };
@@ -269,6 +300,15 @@ fn cards() {
     built.expect(
         "build of score cards",
         &[0, 1, 2, 3, 4, 5, 6, 7, 8, 9, 10, 11, 25, 26],
+    );
+    let (forecast, built) = shared;
+    forecast.expect(
+        "forecast of shared cards",
+        &[0, 1, 2, 3, 4, 5, 6, 7, 8, 9, 10, 28],
+    );
+    built.expect(
+        "build of shared cards",
+        &[0, 1, 2, 3, 4, 5, 6, 7, 8, 9, 10, 11, 28],
     );
 }
 
@@ -312,16 +352,26 @@ fn stray_constant(random: &mut Random, p: u8) -> i16 {
     }
 }
 
-/// A table of gates that no card gives; now and then some constants of it break their rule.
+/// A table of gates that no card gives, with one slot count or two; now and then some constants of
+/// it break their rule.
 fn drawn_table(random: &mut Random) -> Vec<u8> {
     let most = if rarely(random, 200) { 8191 } else { 60 };
     let gates = 1 + random.below(most) as u16;
-    let slots = 1 + random.byte_below(16);
     let p = prime(random);
     let [low, high] = gates.to_le_bytes();
     let weight = 50 + random.byte_below(51);
     let has_strays = rarely(random, 8);
-    let mut table = vec![0x47, 0x48, p, weight, slots, 0, low, high];
+    let count = 1 + random.byte_below(16);
+    let mut table = if rarely(random, 2) {
+        vec![0x47, 0x48, p, weight, count, 0, low, high]
+    } else {
+        let right = 1 + random.byte_below(16);
+        vec![0x47, 0x4A, p, weight, count, right, low, high]
+    };
+    let (left_slots, right_slots) = shapes::slot_counts(&table);
+    // Now and then a slot is one that only the other side may have.
+    let has_stray_slots = rarely(random, 8);
+    let slots = |own: u8, other: u8| if has_stray_slots { own.max(other) } else { own };
     for number in 0..gates {
         let kind = match number {
             0 => 1 + random.byte_below(2),
@@ -329,7 +379,8 @@ fn drawn_table(random: &mut Random) -> Vec<u8> {
         };
         let earlier = |random: &mut Random| random.below(u64::from(number) + 1).saturating_sub(1);
         let a = match kind {
-            1 | 2 => random.below(u64::from(slots)),
+            1 => random.below(slots(left_slots, right_slots).into()),
+            2 => random.below(slots(right_slots, left_slots).into()),
             _ => earlier(random),
         };
         let b = match kind {
@@ -413,23 +464,30 @@ fn compare_last_uses(random: &mut Random, table: &[u8], length: usize) -> Result
 #[test]
 fn tables() {
     let mut random = Random::new(2);
-    let mut checked = Seen::default();
-    let mut run = Seen::default();
-    let mut listed = Seen::default();
+    // What came up by tables whose head mark is that of two slot counts, and by all others.
+    let mut two = (Seen::default(), Seen::default(), Seen::default());
+    let mut one = (Seen::default(), Seen::default(), Seen::default());
     for _ in 0..rounds() {
         let table = table(&mut random);
+        let (checked, run, listed) = if table.starts_with(&shapes::TWO_COUNTS_MARK) {
+            &mut two
+        } else {
+            &mut one
+        };
         let before = table.clone();
         let answer = compare_check(&table);
         checked.note(&answer);
         let part = staplethread::trim(&table);
         assert_eq!(part, second::trim(&table));
         assert!(part.is_empty() || std::ptr::eq(part.as_ptr(), table.as_ptr()));
-        let (p, slots) = (
-            table.get(2).copied().unwrap_or(3),
-            table.get(4).copied().unwrap_or(1) % 32,
-        );
-        let left = list(&mut random, p, usize::from(slots));
-        let right = list(&mut random, p, usize::from(slots));
+        let p = table.get(2).copied().unwrap_or(3);
+        let mut counts = shapes::slot_counts(&table);
+        if rarely(&mut random, 12) {
+            // Each side's list as long as the other's should be.
+            counts = (counts.1, counts.0);
+        }
+        let left = list(&mut random, p, usize::from(counts.0 % 32));
+        let right = list(&mut random, p, usize::from(counts.1 % 32));
         let gates = answer.as_ref().map_or(7, |r| usize::from(r.0));
         let length = room(&mut random, gates);
         run.note(&compare_run(&mut random, &table, &left, &right, length));
@@ -437,9 +495,20 @@ fn tables() {
         listed.note(&compare_last_uses(&mut random, &table, length));
         assert_eq!(table, before);
     }
-    checked.expect("check", &[0, 2, 3, 4, 5, 12, 13, 14, 15, 16, 17]);
-    run.expect("run", &[0, 2, 3, 4, 5, 12, 13, 14, 15, 16, 17, 18, 19, 20]);
-    listed.expect("last_uses", &[0, 2, 3, 4, 5, 12, 13, 14, 15, 16, 17, 27]);
+    for (heads, (checked, run, listed)) in [("one slot count", one), ("two slot counts", two)] {
+        checked.expect(
+            &format!("check, {heads}"),
+            &[0, 2, 3, 4, 5, 12, 13, 14, 15, 16, 17],
+        );
+        run.expect(
+            &format!("run, {heads}"),
+            &[0, 2, 3, 4, 5, 12, 13, 14, 15, 16, 17, 18, 19, 20],
+        );
+        listed.expect(
+            &format!("last_uses, {heads}"),
+            &[0, 2, 3, 4, 5, 12, 13, 14, 15, 16, 17, 27],
+        );
+    }
 }
 
 /// A gate number below `number`: one of the first few, one of the last few, or any.
@@ -631,11 +700,12 @@ fn part_of(score: u16, total: u16) -> usize {
 }
 
 /// The output that the library computes is the truth about the numbers: the yes or no of a plain
-/// card, the score of a score card.
+/// or a shared card, the score of a score card.
 #[test]
 fn outputs() {
     let mut random = Random::new(3);
     let mut bits = [0u64; 2];
+    let mut shared_bits = [0u64; 2];
     let mut scores = [0u64; 3];
     for _ in 0..rounds() {
         let card = card(&mut random);
@@ -644,10 +714,15 @@ fn outputs() {
         };
         let mut table = vec![0; report.table_bytes()];
         assert_eq!(staplethread::build(&card, &mut table), Ok(report));
-        let slots = usize::from(table[4]);
+        let read = Card::read(&card).expect("the library has accepted it");
         let base = card[2] / 2 + 1;
-        let left = random.bytes_below(base, slots);
-        let mut right = left.clone();
+        let left = random.bytes_below(base, usize::from(shapes::slot_counts(&table).0));
+        // The number that each condition finds on the left, with some digits changed.
+        let mut right: Vec<u8> = read
+            .conditions
+            .iter()
+            .flat_map(|condition| left[condition.left_slots()].to_vec())
+            .collect();
         for digit in &mut right {
             if rarely(&mut random, 3) {
                 *digit = random.byte_below(base);
@@ -657,14 +732,15 @@ fn outputs() {
         let mut work = vec![0; usize::from(report.gates)];
         let output = staplethread::run(&table, &left, &right, &mut work).map(u16::from);
         assert_eq!(output, Ok(truth), "{card:02X?} {left:?} {right:?}");
-        let card = Card::read(&card).expect("the library has accepted it");
-        match card.form {
+        match read.form {
             Form::Plain => bits[usize::from(truth)] += 1,
-            Form::Score => scores[part_of(truth, card.total_weight())] += 1,
+            Form::Shared => shared_bits[usize::from(truth)] += 1,
+            Form::Score => scores[part_of(truth, read.total_weight())] += 1,
         }
     }
-    println!("outputs: {bits:?}, scores: {scores:?}");
-    assert!(bits.iter().chain(&scores).all(|&count| count > 0));
+    println!("outputs: {bits:?}, of shared cards: {shared_bits:?}, scores: {scores:?}");
+    let counts = bits.iter().chain(&shared_bits).chain(&scores);
+    assert!(counts.into_iter().all(|&count| count > 0));
 }
 
 fn any_prime(random: &mut Random) -> u8 {

@@ -1,7 +1,7 @@
 //! The print program as it is run: a card's bytes on standard input, the listing on standard
 //! output, compared with the second program's. `rt check print` writes the program.
 
-use second::card::{card_bytes, score_card_bytes};
+use second::card::{card_bytes, score_card_bytes, shared_card_bytes};
 use second::Random;
 use std::io::{ErrorKind, Write};
 use std::process::{Command, Stdio};
@@ -45,6 +45,7 @@ fn every_relation() {
             for p in [3, 5, 7, 31] {
                 compare(&card_bytes(p, 80, &[(relation, n)]));
                 compare(&score_card_bytes(p, 80, &[(relation, n, p - 1)]));
+                compare(&shared_card_bytes(p, 80, &[(relation, n, 1), (1, 1, 0)]));
             }
         }
     }
@@ -54,6 +55,16 @@ fn every_relation() {
 fn largest_cards() {
     compare(&card_bytes(251, 100, &[(2, 16)]));
     compare(&score_card_bytes(251, 100, &[(2, 16, 250)]));
+    compare(&shared_card_bytes(251, 100, &[(2, 8, 0), (4, 8, 0)]));
+}
+
+/// Conditions over the same left slots, over some of them, and over others.
+#[test]
+fn left_slots() {
+    for first in [0, 1, 2, 13, 14, 15, 255] {
+        compare(&shared_card_bytes(11, 80, &[(4, 2, 1), (2, 2, first)]));
+        compare(&shared_card_bytes(11, 80, &[(5, 3, first), (6, 1, 0)]));
+    }
 }
 
 /// 5 and 6 are 5 and -5 as constants.
@@ -79,12 +90,13 @@ fn compare_lengths(card: Vec<u8>) {
     }
 }
 
-/// The longest cards of both forms: eight conditions.
+/// The longest cards of each form: eight conditions.
 #[test]
 fn every_length() {
     let relations = [6, 1, 5, 4, 2, 3, 5, 1];
     compare_lengths(card_bytes(11, 90, &relations.map(|r| (r, 2))));
     compare_lengths(score_card_bytes(11, 90, &relations.map(|r| (r, 2, 1))));
+    compare_lengths(shared_card_bytes(11, 90, &relations.map(|r| (r, 2, 3))));
 }
 
 #[test]
@@ -92,8 +104,9 @@ fn damaged_cards() {
     let mut random = Random::new(6);
     let plain = card_bytes(13, 60, &[(4, 2), (5, 3)]);
     let score = score_card_bytes(13, 60, &[(4, 2, 5), (5, 3, 7)]);
-    for round in 0..300 {
-        let mut card = if round % 2 == 0 { &plain } else { &score }.clone();
+    let shared = shared_card_bytes(13, 60, &[(4, 2, 0), (5, 3, 1)]);
+    for round in 0..450 {
+        let mut card = [&plain, &score, &shared][round % 3].clone();
         let place = random.below(card.len() as u64) as usize;
         card[place] = random.next_u64() as u8;
         compare(&card);

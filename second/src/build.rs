@@ -1,12 +1,12 @@
-//! Build: "Writing one condition", "Whole card" and "Scored queries", all with
-//! "Constants near zero".
+//! Build: "Writing one condition", "Whole card", "Scored queries" and "Two
+//! conditions over the same field", all with "Constants near zero".
 
 use crate::card::{Card, Condition, Form, Relation};
 use crate::field::{near_zero, order_constants};
 use crate::forecast::card_report;
 use crate::refusal::{self, Refusal};
 use crate::report::{cost, Depth, Report};
-use crate::table::{table_bytes, Gate, Head, Kind, RECORD_BYTES};
+use crate::table::{table_bytes, Gate, Head, Kind, Slots, RECORD_BYTES};
 
 /// A written gate: its number and its depth.
 #[derive(Clone, Copy, Debug, PartialEq, Eq)]
@@ -63,7 +63,7 @@ impl<'a> Writer<'a> {
         let head = Head {
             p: card.p,
             weight: card.weight,
-            slots: card.digits() as u8,
+            slots: head_slots(card),
             gates: self.gates,
         };
         self.table[..RECORD_BYTES].copy_from_slice(&head.record());
@@ -118,12 +118,24 @@ impl<'a> Writer<'a> {
     }
 }
 
+/// The counts of the head: a shared card's has one for each side.
+fn head_slots(card: &Card) -> Slots {
+    let right = card.digits() as u8;
+    match card.form {
+        Form::Plain | Form::Score => Slots::Both(right),
+        Form::Shared => Slots::Each {
+            left: card.left_slots() as u8,
+            right,
+        },
+    }
+}
+
 /// "Conditions in order, then the product tree over their outputs"; a score
 /// card has the score in its place: "there is no product tree".
 fn write_card(writer: &mut Writer, card: &Card) -> Wire {
     let outputs = write_conditions(writer, card);
     match card.form {
-        Form::Plain => product_tree(writer, outputs),
+        Form::Plain | Form::Shared => product_tree(writer, outputs),
         Form::Score => write_score(writer, card, &outputs),
     }
 }
@@ -136,8 +148,8 @@ fn write_score(writer: &mut Writer, card: &Card, outputs: &[Wire]) -> Wire {
     write_sum(writer, outputs.iter().copied().zip(weights))
 }
 
-/// The conditions in order, each in the next slots of both sides; their
-/// outputs.
+/// The conditions in order, each in its left slots and in the next right ones:
+/// "right slots are still handed out in order". Their outputs.
 fn write_conditions(writer: &mut Writer, card: &Card) -> Vec<Wire> {
     // The constants of the prime serve all order conditions of the card.
     let constants = if card.conditions.iter().any(|c| c.relation.is_order()) {
@@ -145,38 +157,46 @@ fn write_conditions(writer: &mut Writer, card: &Card) -> Vec<Wire> {
     } else {
         Vec::new()
     };
-    let mut slot = 0;
+    let mut first_right = 0;
     let mut outputs = Vec::with_capacity(card.conditions.len());
     for condition in &card.conditions {
-        outputs.push(write_condition(writer, card.p, &constants, condition, slot));
-        slot += condition.digits;
+        outputs.push(write_condition(
+            writer,
+            card.p,
+            &constants,
+            condition,
+            first_right,
+        ));
+        first_right += condition.digits;
     }
     outputs
 }
 
-/// "Digits go low to high", then they are joined, then the last FLIP.
+/// "Digits go low to high", then they are joined, then the last FLIP. "Each
+/// writes LEFT, RIGHT", also where an earlier condition has that left slot's.
 fn write_condition(
     writer: &mut Writer,
     p: u8,
     constants: &[u8],
     condition: &Condition,
-    first_slot: usize,
+    first_right: usize,
 ) -> Wire {
     let relation = condition.relation;
-    let slots = first_slot..first_slot + condition.digits;
+    let slots = condition.left_slots().zip(first_right..);
     let joined = if relation.is_order() {
         let mut digits = Vec::with_capacity(condition.digits);
         let mut powers = Vec::with_capacity(usize::from(p));
-        for slot in slots {
-            let z = write_difference(writer, relation, slot);
+        for (left, right) in slots {
+            let is_lowest = digits.is_empty();
+            let z = write_difference(writer, relation, left, right);
             write_powers(writer, p, z, &mut powers);
-            digits.push(order_digit(writer, constants, &powers, slot == first_slot));
+            digits.push(order_digit(writer, constants, &powers, is_lowest));
         }
         join_order(writer, &digits).less
     } else {
         let mut digits = Vec::with_capacity(condition.digits);
-        for slot in slots {
-            let z = write_difference(writer, relation, slot);
+        for (left, right) in slots {
+            let z = write_difference(writer, relation, left, right);
             digits.push(equality_digit(writer, p, z));
         }
         product_tree(writer, digits)
@@ -190,9 +210,14 @@ fn write_condition(
 
 /// "Each writes LEFT, RIGHT, then z: left minus right for relations 1, 4, 5,
 /// 6, right minus left for 2, 3."
-fn write_difference(writer: &mut Writer, relation: Relation, slot: usize) -> Wire {
-    let left = writer.left(slot);
-    let right = writer.right(slot);
+fn write_difference(
+    writer: &mut Writer,
+    relation: Relation,
+    left_slot: usize,
+    right_slot: usize,
+) -> Wire {
+    let left = writer.left(left_slot);
+    let right = writer.right(right_slot);
     if relation.swaps() {
         writer.sub(right, left)
     } else {

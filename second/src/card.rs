@@ -1,8 +1,9 @@
-//! "Card" and "Scored queries": reading a card's bytes, with Build's refusals
-//! but 11.
+//! "Card", "Scored queries" and "Two conditions over the same field": reading a
+//! card's bytes, with Build's refusals but 11.
 
 use crate::field::{is_listed, MOST_DIGITS};
 use crate::refusal::{self, demand, Refusal};
+use std::ops::Range;
 
 pub const HEAD_BYTES: usize = 6;
 pub const CONDITION_BYTES: usize = 4;
@@ -15,12 +16,20 @@ pub const SCORE_HEAD_MARK: [u8; 2] = [0xC5, 0x53];
 pub const SCORE_CONDITION_MARK: [u8; 2] = [0xC5, 0x57];
 pub const SCORE_CONDITION_BYTES: usize = 6;
 
+/// "With head mark 0xC5 0x4A a card has condition records of 6 bytes: mark 0xC5
+/// 0x52, relation, n, first left slot, spare 0."
+pub const SHARED_HEAD_MARK: [u8; 2] = [0xC5, 0x4A];
+pub const SHARED_CONDITION_MARK: [u8; 2] = [0xC5, 0x52];
+pub const SHARED_CONDITION_BYTES: usize = 6;
+
 /// What a card asks for: a plain card for a yes or no, a score card for "how
-/// bad".
+/// bad", and a shared card for a yes or no where conditions may share left
+/// slots.
 #[derive(Clone, Copy, Debug, PartialEq, Eq)]
 pub enum Form {
     Plain,
     Score,
+    Shared,
 }
 
 /// "Relations between left (record) and right (query)."
@@ -38,9 +47,12 @@ pub enum Relation {
 pub struct Condition {
     pub relation: Relation,
     pub digits: usize,
-    /// What the condition adds to a score where it holds; 0 on a plain card,
-    /// which has no such weights.
+    /// What the condition adds to a score where it holds; 0 on a card that is no
+    /// score card, which has no such weights.
     pub weight: u8,
+    /// The left slot of its lowest digit. A shared card says which; on the other
+    /// cards it is the next one, as it is on the right of all cards.
+    pub first_left: usize,
 }
 
 #[derive(Clone, Debug, PartialEq, Eq)]
@@ -58,6 +70,7 @@ impl Form {
         match mark {
             HEAD_MARK => Some(Form::Plain),
             SCORE_HEAD_MARK => Some(Form::Score),
+            SHARED_HEAD_MARK => Some(Form::Shared),
             _ => None,
         }
     }
@@ -66,6 +79,7 @@ impl Form {
         match self {
             Form::Plain => HEAD_MARK,
             Form::Score => SCORE_HEAD_MARK,
+            Form::Shared => SHARED_HEAD_MARK,
         }
     }
 
@@ -73,6 +87,7 @@ impl Form {
         match self {
             Form::Plain => CONDITION_MARK,
             Form::Score => SCORE_CONDITION_MARK,
+            Form::Shared => SHARED_CONDITION_MARK,
         }
     }
 
@@ -80,7 +95,15 @@ impl Form {
         match self {
             Form::Plain => CONDITION_BYTES,
             Form::Score => SCORE_CONDITION_BYTES,
+            Form::Shared => SHARED_CONDITION_BYTES,
         }
+    }
+}
+
+impl Condition {
+    /// The left slots that the condition reads, lowest digit first.
+    pub fn left_slots(&self) -> Range<usize> {
+        self.first_left..self.first_left + self.digits
     }
 }
 
@@ -134,6 +157,7 @@ impl Card {
         let conditions = match form {
             Form::Plain => read_conditions::<CONDITION_BYTES>(form, p, rest)?,
             Form::Score => read_conditions::<SCORE_CONDITION_BYTES>(form, p, rest)?,
+            Form::Shared => read_conditions::<SHARED_CONDITION_BYTES>(form, p, rest)?,
         };
         let card = Card {
             form,
@@ -146,13 +170,21 @@ impl Card {
         Ok(card)
     }
 
-    /// N, the digits of all conditions together.
+    /// N, the digits of all conditions together. Each has a right slot of its
+    /// own on cards of all forms, so "refusal 10 counts right slots" is this.
     pub fn digits(&self) -> usize {
         self.conditions.iter().map(|c| c.digits).sum()
     }
 
+    /// "The left slot count (highest used plus 1)": slots below the highest one
+    /// that no condition uses are counted. N where each digit has its own.
+    pub fn left_slots(&self) -> usize {
+        let ends = self.conditions.iter().map(|c| c.left_slots().end);
+        ends.max().unwrap_or(0)
+    }
+
     /// The weights of all conditions together: the score where all hold, and 0
-    /// on a plain card.
+    /// on a card that is no score card.
     pub fn total_weight(&self) -> u16 {
         self.conditions.iter().map(|c| u16::from(c.weight)).sum()
     }
@@ -180,6 +212,17 @@ pub fn score_card_bytes(p: u8, weight: u8, conditions: &[(u8, u8, u8)]) -> Vec<u
     card
 }
 
+/// The bytes of a shared card with these conditions, each a relation, an n and
+/// its first left slot; nothing is looked at here either.
+pub fn shared_card_bytes(p: u8, weight: u8, conditions: &[(u8, u8, u8)]) -> Vec<u8> {
+    let mut card = head_bytes(Form::Shared, p, weight, conditions.len());
+    for &(relation, n, first_left) in conditions {
+        card.extend(SHARED_CONDITION_MARK);
+        card.extend([relation, n, first_left, 0]);
+    }
+    card
+}
+
 /// "Head, 6 bytes: mark .., p, weight s .., condition count c .., spare 0."
 fn head_bytes(form: Form, p: u8, weight: u8, count: usize) -> Vec<u8> {
     let [m0, m1] = form.head_mark();
@@ -197,26 +240,39 @@ fn read_conditions<const SIZE: usize>(
     p: u8,
     records: &[u8],
 ) -> Result<Vec<Condition>, Refusal> {
-    records
-        .chunks_exact(SIZE)
-        .map(|record| read_condition(form, p, record))
-        .collect()
+    let mut next_slot = 0;
+    let mut conditions = Vec::new();
+    for record in records.chunks_exact(SIZE) {
+        let condition = read_condition(form, p, record, next_slot)?;
+        next_slot += condition.digits;
+        conditions.push(condition);
+    }
+    Ok(conditions)
 }
 
-/// "By condition 2 mark, 8 relation, 9 n"; a score card's record goes on.
-fn read_condition(form: Form, p: u8, record: &[u8]) -> Result<Condition, Refusal> {
+/// "By condition 2 mark, 8 relation, 9 n"; the record of a score card or of a
+/// shared card goes on. Without a first left slot of its own a condition has the
+/// next one.
+fn read_condition(
+    form: Form,
+    p: u8,
+    record: &[u8],
+    next_slot: usize,
+) -> Result<Condition, Refusal> {
     demand(record[..2] == form.condition_mark(), refusal::MARK)?;
     let relation = Relation::from_code(record[2]).ok_or(refusal::RELATION)?;
     let digits = usize::from(record[3]);
     demand((1..=MOST_DIGITS).contains(&digits), refusal::DIGIT_COUNT)?;
-    let weight = match form {
-        Form::Plain => 0,
-        Form::Score => read_weight(p, record[4], record[5])?,
+    let (weight, first_left) = match form {
+        Form::Plain => (0, next_slot),
+        Form::Score => (read_weight(p, record[4], record[5])?, next_slot),
+        Form::Shared => (0, read_first_slot(digits, record[4], record[5])?),
     };
     Ok(Condition {
         relation,
         digits,
         weight,
+        first_left,
     })
 }
 
@@ -226,4 +282,13 @@ fn read_weight(p: u8, weight: u8, spare: u8) -> Result<u8, Refusal> {
     demand((1..p).contains(&weight), refusal::CONDITION_WEIGHT)?;
     demand(spare == 0, refusal::SPARE)?;
     Ok(weight)
+}
+
+/// "28, first slot plus n above 16, after 9 of its record and before a spare's
+/// 5."
+fn read_first_slot(digits: usize, first_slot: u8, spare: u8) -> Result<usize, Refusal> {
+    let first_slot = usize::from(first_slot);
+    demand(first_slot + digits <= MOST_DIGITS, refusal::FIRST_SLOT)?;
+    demand(spare == 0, refusal::SPARE)?;
+    Ok(first_slot)
 }

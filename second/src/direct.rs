@@ -4,37 +4,38 @@ use crate::card::{Card, Form, Relation};
 use crate::field::half_range;
 use std::cmp::Ordering;
 
-/// The output that the card's table has to have: on a plain card 1 where all
-/// conditions hold and else 0, on a score card "the sum of the weights of the
-/// conditions that hold", as a number. `None` where the card is refused, or a
-/// list is not N digits below B.
+/// The output that the card's table has to have: on a plain or shared card 1
+/// where all conditions hold and else 0, on a score card "the sum of the weights
+/// of the conditions that hold", as a number. `None` where the card is refused,
+/// or a list has not the digits below B that its side takes.
 pub fn expected_output(card: &[u8], left: &[u8], right: &[u8]) -> Option<u16> {
     let card = Card::read(card).ok()?;
-    if !are_digits(&card, left) || !are_digits(&card, right) {
+    if !are_digits(&card, card.left_slots(), left) || !are_digits(&card, card.digits(), right) {
         return None;
     }
     let truths = truths(&card, left, right);
     Some(match card.form {
-        Form::Plain => u16::from(truths.iter().all(|&holds| holds)),
+        Form::Plain | Form::Shared => u16::from(truths.iter().all(|&holds| holds)),
         Form::Score => score(&card, &truths),
     })
 }
 
-/// N digits below B.
-fn are_digits(card: &Card, list: &[u8]) -> bool {
+/// This many digits below B.
+fn are_digits(card: &Card, count: usize, list: &[u8]) -> bool {
     let base = half_range(card.p);
-    list.len() == card.digits() && list.iter().all(|&digit| digit < base)
+    list.len() == count && list.iter().all(|&digit| digit < base)
 }
 
 /// Which conditions hold: "A condition holds where its relation is true of the
-/// number in its left slots and the number in its right slots."
+/// number in its left slots and the number in its right slots." The right list
+/// is used up from the front, by one condition after the other.
 fn truths(card: &Card, left: &[u8], right: &[u8]) -> Vec<bool> {
-    let mut slot = 0;
+    let mut right = right;
     let mut truths = Vec::with_capacity(card.conditions.len());
     for condition in &card.conditions {
-        let slots = slot..slot + condition.digits;
-        slot = slots.end;
-        let ordering = compare(&left[slots.clone()], &right[slots]);
+        let (asked, later) = right.split_at(condition.digits);
+        right = later;
+        let ordering = compare(&left[condition.left_slots()], asked);
         truths.push(is_true(condition.relation, ordering));
     }
     truths

@@ -8,7 +8,8 @@ pub const PRIMES: [u8; 53] = [
     197, 199, 211, 223, 227, 229, 233, 239, 241, 251,
 ];
 
-/// The most digits of a number, of a condition and of a card.
+/// The most digits of a number, of a condition and of a card, and the most slots
+/// of a side.
 pub const MOST_DIGITS: usize = 16;
 
 /// "p is one of the 53 odd primes from 3 to 251."

@@ -34,7 +34,7 @@ pub fn card_report(card: &Card) -> Report {
         deepest = deepest.max(share.depth);
     }
     let depth = match card.form {
-        Form::Plain => tree_depth(powers),
+        Form::Plain | Form::Shared => tree_depth(powers),
         // "Its depth is D plus the largest ceil(log2 n)."
         Form::Score => deepest,
     };
@@ -48,13 +48,13 @@ pub fn card_report(card: &Card) -> Report {
     }
 }
 
-/// The gates that join the conditions, and the products among them. A plain
-/// card has c-1, all of them products. A score card has c SCALEs and c-1 ADDs,
-/// and no product.
+/// The gates that join the conditions, and the products among them. A plain or
+/// shared card has c-1, all of them products. A score card has c SCALEs and c-1
+/// ADDs, and no product.
 fn joining(card: &Card) -> (u32, u32) {
     let count = card.conditions.len() as u32;
     match card.form {
-        Form::Plain => (count - 1, count - 1),
+        Form::Plain | Form::Shared => (count - 1, count - 1),
         Form::Score => (2 * count - 1, 0),
     }
 }

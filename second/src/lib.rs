@@ -1,7 +1,7 @@
 //! The query builder: cards, gate tables, the plain run of a table, digit
 //! coding and a forecast, as the document on the builder's rules has them, and
-//! scored queries, constants near zero, the last-use list and products that
-//! nothing uses, as the requests for them do.
+//! scored queries, constants near zero, the last-use list, products that nothing
+//! uses and two conditions over the same field, as the requests for them do.
 
 pub mod build;
 pub mod card;

@@ -1,5 +1,5 @@
 //! The numbers of "Operations and what they turn away", and those of scored
-//! queries and of the last-use list.
+//! queries, of the last-use list and of two conditions over the same field.
 
 /// A refusal answers its number and nothing else.
 pub type Refusal = u8;
@@ -31,6 +31,7 @@ pub const NUMBER_OVERFLOW: Refusal = 24;
 pub const CONDITION_WEIGHT: Refusal = 25;
 pub const TOTAL_WEIGHT: Refusal = 26;
 pub const USES_ROOM: Refusal = 27;
+pub const FIRST_SLOT: Refusal = 28;
 
 /// `Ok` where the condition holds, else the refusal.
 pub fn demand(condition: bool, refusal: Refusal) -> Result<(), Refusal> {

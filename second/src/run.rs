@@ -6,13 +6,15 @@ use crate::table::{Gate, Kind, Table};
 
 /// Run: "Check's, then 18 left or right list not N long, 19 a value of p or
 /// more, 20 work buffer under G"; the gate values go to the first G work bytes
-/// and the last one is the answer.
+/// and the last one is the answer. Where a head has two counts, each list has
+/// its side's; a value in a slot that no gate names is looked at too.
 pub fn run(table: &[u8], left: &[u8], right: &[u8], work: &mut [u8]) -> Result<u8, Refusal> {
     let table = Table::read(table)?;
     let p = table.head.p;
-    let slots = usize::from(table.head.slots);
+    let slots = table.head.slots;
+    let has = |list: &[u8], count: u8| list.len() == usize::from(count);
     demand(
-        left.len() == slots && right.len() == slots,
+        has(left, slots.left()) && has(right, slots.right()),
         refusal::LIST_LENGTH,
     )?;
     demand(

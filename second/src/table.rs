@@ -8,6 +8,8 @@ use crate::used::{used_counts, Counts};
 
 pub const RECORD_BYTES: usize = 8;
 pub const HEAD_MARK: [u8; 2] = [0x47, 0x48];
+/// The head mark of a shared card's table.
+pub const SHARED_HEAD_MARK: [u8; 2] = [0x47, 0x4A];
 pub const GATE_MARK: [u8; 2] = [0x47, 0x54];
 pub const MOST_GATES: u16 = 8191;
 
@@ -30,12 +32,21 @@ pub struct Gate {
     pub b: u16,
 }
 
+/// How many slots the sides have, as the two heads tell it.
+#[derive(Clone, Copy, Debug, PartialEq, Eq)]
+pub enum Slots {
+    /// Mark 0x47 0x48: N, the same on both sides.
+    Both(u8),
+    /// Mark 0x47 0x4A: each side has its own count. It may be the same.
+    Each { left: u8, right: u8 },
+}
+
 /// The head record.
 #[derive(Clone, Copy, Debug, PartialEq, Eq)]
 pub struct Head {
     pub p: u8,
     pub weight: u8,
-    pub slots: u8,
+    pub slots: Slots,
     pub gates: u16,
 }
 
@@ -86,31 +97,81 @@ impl Kind {
     }
 }
 
-impl Head {
-    /// "Head: 0x47 0x48, p, s, N, spare 0, gate count G as u16."
-    pub fn record(&self) -> [u8; RECORD_BYTES] {
-        let [m0, m1] = HEAD_MARK;
-        let [g0, g1] = self.gates.to_le_bytes();
-        [m0, m1, self.p, self.weight, self.slots, 0, g0, g1]
+impl Slots {
+    /// What a head of this mark says in its bytes 4 and 5; `None` where there is
+    /// no such mark.
+    fn from_bytes(mark: [u8; 2], byte4: u8, byte5: u8) -> Option<Slots> {
+        match mark {
+            HEAD_MARK => Some(Slots::Both(byte4)),
+            SHARED_HEAD_MARK => Some(Slots::Each {
+                left: byte4,
+                right: byte5,
+            }),
+            _ => None,
+        }
     }
 
-    /// Check's refusals up to 14, in their order.
+    pub fn left(self) -> u8 {
+        match self {
+            Slots::Both(count) => count,
+            Slots::Each { left, .. } => left,
+        }
+    }
+
+    pub fn right(self) -> u8 {
+        match self {
+            Slots::Both(count) => count,
+            Slots::Each { right, .. } => right,
+        }
+    }
+
+    pub fn head_mark(self) -> [u8; 2] {
+        match self {
+            Slots::Both(_) => HEAD_MARK,
+            Slots::Each { .. } => SHARED_HEAD_MARK,
+        }
+    }
+
+    /// Byte 5: "spare 0", or "byte 5 the right slot count".
+    fn byte5(self) -> u8 {
+        match self {
+            Slots::Both(_) => 0,
+            Slots::Each { right, .. } => right,
+        }
+    }
+
+    /// "Both 1 to 16 under refusal 13."
+    fn are_in_range(self) -> bool {
+        let is_in_range = |count: u8| (1..=MOST_DIGITS).contains(&usize::from(count));
+        is_in_range(self.left()) && is_in_range(self.right())
+    }
+}
+
+impl Head {
+    /// "Head: 0x47 0x48, p, s, N, spare 0, gate count G as u16", or "head mark
+    /// 0x47 0x4A, byte 4 the left slot count .., byte 5 the right slot count".
+    pub fn record(&self) -> [u8; RECORD_BYTES] {
+        let [m0, m1] = self.slots.head_mark();
+        let (byte4, byte5) = (self.slots.left(), self.slots.byte5());
+        let [g0, g1] = self.gates.to_le_bytes();
+        [m0, m1, self.p, self.weight, byte4, byte5, g0, g1]
+    }
+
+    /// Check's refusals up to 14, in their order. 13 reads both counts of a head
+    /// that has two; such a head has no spare, so that nothing of it gives 5.
     fn read(bytes: &[u8]) -> Result<Head, Refusal> {
         demand(bytes.len() >= RECORD_BYTES, refusal::TABLE_SHORT)?;
+        let mark = [bytes[0], bytes[1]];
         let head = Head {
             p: bytes[2],
             weight: bytes[3],
-            slots: bytes[4],
+            slots: Slots::from_bytes(mark, bytes[4], bytes[5]).ok_or(refusal::MARK)?,
             gates: u16::from_le_bytes([bytes[6], bytes[7]]),
         };
-        demand(bytes[..2] == HEAD_MARK, refusal::MARK)?;
         demand(is_listed(head.p), refusal::PRIME)?;
         demand(is_weight(head.weight), refusal::WEIGHT)?;
-        demand(
-            (1..=MOST_DIGITS).contains(&usize::from(head.slots)),
-            refusal::SLOT_COUNT,
-        )?;
-        demand(bytes[5] == 0, refusal::SPARE)?;
+        demand(head.slots.are_in_range(), refusal::SLOT_COUNT)?;
+        demand(bytes[5] == head.slots.byte5(), refusal::SPARE)?;
         demand((1..=MOST_GATES).contains(&head.gates), refusal::GATE_COUNT)?;
         Ok(head)
     }
@@ -148,11 +209,13 @@ impl Gate {
     }
 
     /// Whether gate `number` may have these operands: "Gates name only gates
-    /// with lower numbers; slots are below N", a constant is "from -(p-1)/2 to
-    /// (p-1)/2", and an unused b is 0.
+    /// with lower numbers; slots are below N", where "17 and 18 read each side
+    /// against its own count", a constant is "from -(p-1)/2 to (p-1)/2", and an
+    /// unused b is 0.
     fn fits(&self, number: u16, head: &Head) -> bool {
         match self.kind {
-            Kind::Left | Kind::Right => self.a < u16::from(head.slots) && self.b == 0,
+            Kind::Left => self.a < u16::from(head.slots.left()) && self.b == 0,
+            Kind::Right => self.a < u16::from(head.slots.right()) && self.b == 0,
             Kind::Add | Kind::Sub | Kind::Mul => self.a < number && self.b < number,
             Kind::Scale => self.a < number && is_near_zero(head.p, self.constant()),
             Kind::Flip => self.a < number && self.b == 0,

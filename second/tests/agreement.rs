@@ -1,19 +1,22 @@
 //! Parts of the package against each other.
 
-use second::card::{card_bytes as card, score_card_bytes as score_card, Card, Form, Relation};
+use second::card::{
+    card_bytes as card, score_card_bytes as score_card, shared_card_bytes as shared_card, Card,
+    Form, Relation,
+};
 use second::field::{half_range, near_zero, order_constants, scale, PRIMES};
-use second::table::{Gate, Head, Kind, Table};
+use second::table::{Gate, Head, Kind, Slots, Table};
 use second::{build, check, decode, encode, expected_output, forecast, run, trim, Random};
 use std::collections::BTreeSet;
 
 const RELATIONS: [u8; 6] = [1, 2, 3, 4, 5, 6];
 
-/// A card of either form.
+/// A card of any form.
 fn random_card(random: &mut Random) -> Vec<u8> {
-    if random.below(2) == 0 {
-        random_plain_card(random)
-    } else {
-        random_score_card(random)
+    match random.below(3) {
+        0 => random_plain_card(random),
+        1 => random_score_card(random),
+        _ => random_shared_card(random),
     }
 }
 
@@ -54,6 +57,39 @@ fn random_score_card(random: &mut Random) -> Vec<u8> {
     score_card(plain.p, plain.weight, &conditions)
 }
 
+/// The conditions of a plain card in other left slots: in few of them, so that
+/// most are shared, or anywhere.
+fn random_shared_card(random: &mut Random) -> Vec<u8> {
+    let plain = Card::read(&random_plain_card(random)).unwrap();
+    let few = random.below(2) == 0;
+    let mut conditions = Vec::new();
+    for condition in &plain.conditions {
+        let n = condition.digits as u8;
+        let room = if few { 2.min(16 - n) } else { 16 - n };
+        let first = random.byte_below(room + 1);
+        conditions.push((random.pick(&RELATIONS), n, first));
+    }
+    shared_card(plain.p, plain.weight, &conditions)
+}
+
+/// Two lists for a card: about `changed` of twelve right digits are drawn anew,
+/// the others are those that they are compared with.
+fn random_lists(random: &mut Random, card: &[u8], changed: u64) -> (Vec<u8>, Vec<u8>) {
+    let card = Card::read(card).unwrap();
+    let base = half_range(card.p);
+    let left = random.bytes_below(base, card.left_slots());
+    let mut right = Vec::new();
+    for condition in &card.conditions {
+        right.extend(&left[condition.left_slots()]);
+    }
+    for digit in &mut right {
+        if random.below(12) < changed {
+            *digit = random.byte_below(base);
+        }
+    }
+    (left, right)
+}
+
 /// Builds the card and compares what Forecast, Build, Check and Trim say.
 fn built(card: &[u8]) -> Vec<u8> {
     let report = forecast(card).unwrap();
@@ -87,6 +123,7 @@ fn forecast_is_build_for_each_prime_relation_and_digit_count() {
             for n in 1..=16 {
                 built(&card(p, 50 + n, &[(relation, n)]));
                 built(&score_card(p, 50 + n, &[(relation, n, p - n.min(p - 1))]));
+                built(&shared_card(p, 50 + n, &[(relation, n, 16 - n)]));
             }
         }
     }
@@ -123,19 +160,14 @@ fn random_runs_are_right() {
     for _ in 0..600 {
         let card = random_card(&mut random);
         let table = built(&card);
-        let base = half_range(card[2]);
-        let slots = Card::read(&card).unwrap().digits();
-        for round in 0..12 {
-            let left = random.bytes_below(base, slots);
-            let mut right = left.clone();
-            // Near numbers: from all digits drawn anew to none.
-            for digit in &mut right {
-                if random.below(12) < round {
-                    *digit = random.byte_below(base);
-                }
-            }
+        // Near numbers: from no digit drawn anew to almost all.
+        for changed in 0..12 {
+            let (left, right) = random_lists(&mut random, &card, changed);
             compare(&card, &table, &left, &right);
-            compare(&card, &table, &right, &left);
+            // Where each digit has its own slot, the other way too.
+            if card[1] != 0x4A {
+                compare(&card, &table, &right, &left);
+            }
         }
     }
 }
@@ -190,6 +222,118 @@ fn expected_outputs_are_of_what_is_accepted() {
         assert_eq!(expected_output(&card, &[2, 2], &[0, 0, 0]), None);
         assert_eq!(expected_output(&card[..9], &[2, 2], &[0, 0]), None);
     }
+}
+
+/// Lists of each side's own length are asked for.
+#[test]
+fn expected_outputs_of_shared_cards() {
+    let card = shared_card(5, 50, &[(1, 2, 1), (4, 1, 1), (6, 2, 0)]);
+    let output = |left: &[u8], right: &[u8]| expected_output(&card, left, right);
+    // 3 is below 4, 0 is at least 0, and 2 is not 1.
+    assert_eq!(output(&[2, 0, 1], &[1, 1, 0, 1, 0]), Some(1));
+    assert_eq!(output(&[2, 0, 1], &[0, 1, 0, 1, 0]), Some(0));
+    assert_eq!(output(&[2, 0, 1], &[1, 1, 1, 1, 0]), Some(0));
+    assert_eq!(output(&[2, 0, 1], &[1, 1, 0, 2, 0]), Some(0));
+    assert_eq!(output(&[3, 0, 1], &[1, 1, 0, 1, 0]), None);
+    assert_eq!(output(&[2, 0, 1], &[1, 1, 0, 1, 3]), None);
+    assert_eq!(output(&[2, 0, 1, 0, 0], &[1, 1, 0, 1, 0]), None);
+    assert_eq!(output(&[2, 0, 1], &[1, 1, 0]), None);
+    // A slot that no condition uses is a digit all the same.
+    let card = shared_card(5, 50, &[(5, 1, 2)]);
+    assert_eq!(expected_output(&card, &[2, 2, 1], &[1]), Some(1));
+    assert_eq!(expected_output(&card, &[3, 2, 1], &[1]), None);
+    assert_eq!(expected_output(&card, &[1], &[1]), None);
+}
+
+/// Two conditions over one number: all numbers of two digits at p=3 and of one
+/// at p=5, each relation beside each.
+#[test]
+fn small_ranges_are_right() {
+    for (p, n) in [(3, 2), (5, 1)] {
+        let base = u64::from(half_range(p));
+        let count = base.pow(u32::from(n));
+        for (first, second) in RELATIONS
+            .into_iter()
+            .flat_map(|r| RELATIONS.map(|s| (r, s)))
+        {
+            let card = shared_card(p, 100, &[(first, n, 0), (second, n, 0)]);
+            let table = built(&card);
+            for numbers in 0..count.pow(3) {
+                let mut digits = vec![0; 3 * usize::from(n)];
+                for (place, digit) in (0..).zip(&mut digits) {
+                    *digit = (numbers / base.pow(place) % base) as u8;
+                }
+                let (left, right) = digits.split_at(usize::from(n));
+                compare(&card, &table, left, right);
+            }
+        }
+    }
+}
+
+/// A shared card with the slots of a plain card has its gates, and one with
+/// other left slots has them but for the slots of its LEFTs. Its head says the
+/// counts of both sides.
+#[test]
+fn shared_cards_have_the_gates_of_plain_cards() {
+    let mut random = Random::new(9);
+    for _ in 0..500 {
+        let shared = random_shared_card(&mut random);
+        let records = shared[6..].chunks(6);
+        let (mut plain, mut own_slots) = (Vec::new(), Vec::new());
+        let (mut next, mut highest) = (0, 0);
+        for record in records {
+            plain.push((record[2], record[3]));
+            own_slots.push((record[2], record[3], next));
+            next += record[3];
+            highest = highest.max(record[4] + record[3]);
+        }
+        let plain = built(&card(shared[2], shared[3], &plain));
+        let own_slots = built(&shared_card(shared[2], shared[3], &own_slots));
+        let shared = built(&shared);
+        assert_eq!(own_slots[..2], [0x47, 0x4A]);
+        assert_eq!(own_slots[4..6], [plain[4], plain[4]]);
+        assert_eq!(own_slots[6..], plain[6..]);
+        assert_eq!(shared[..2], [0x47, 0x4A]);
+        assert_eq!(shared[2..4], plain[2..4]);
+        assert_eq!(shared[4..6], [highest, plain[4]]);
+        for (gate, other) in shared[8..].chunks(8).zip(plain[8..].chunks(8)) {
+            let is_left = gate[2] == 1;
+            assert_eq!(gate[..4], other[..4]);
+            assert!(is_left || gate == other);
+        }
+        assert_eq!(shared.len(), plain.len());
+    }
+}
+
+/// One or two bytes of a card are others: Forecast and Build say the same, and a
+/// card that is still accepted is built and run as any.
+#[test]
+fn damaged_shared_cards() {
+    let mut random = Random::new(10);
+    let mut numbers = BTreeSet::new();
+    for _ in 0..20_000 {
+        let mut card = random_shared_card(&mut random);
+        for _ in 0..1 + random.below(2) {
+            let place = random.below(card.len() as u64) as usize;
+            card[place] = random.pick(&[0, 1, 2, 15, 16, 17, 255, card[place] ^ 1]);
+        }
+        match forecast(&card) {
+            Err(number) => {
+                let mut table = [7; 40];
+                assert_eq!(build(&card, &mut table), Err(number));
+                assert_eq!(table, [7; 40]);
+                assert_eq!(expected_output(&card, &[0], &[0]), None);
+                numbers.insert(number);
+            }
+            Ok(_) => {
+                let table = built(&card);
+                let (left, right) = random_lists(&mut random, &card, 1);
+                compare(&card, &table, &left, &right);
+            }
+        }
+    }
+    let numbers: Vec<u8> = numbers.into_iter().collect();
+    assert_eq!(numbers, [2, 3, 4, 5, 6, 7, 8, 9, 10, 28]);
 }
 
 /// All digits of two conditions, each relation beside each, with the smallest
@@ -347,10 +491,14 @@ fn order_digits_have_their_constants() {
     }
 }
 
-/// A table of gates of all kinds, with constants of both signs.
+/// A table of gates of all kinds, with constants of both signs and either head.
 fn random_table(random: &mut Random) -> Vec<u8> {
     let p = random.pick(&PRIMES);
-    let slots = 1 + random.byte_below(16);
+    let [left, right] = [(); 2].map(|()| 1 + random.byte_below(16));
+    let slots = match random.below(2) {
+        0 => Slots::Both(left),
+        _ => Slots::Each { left, right },
+    };
     let gates = 2 + random.below(60) as u16;
     let weight = 50 + random.byte_below(51);
     let head = Head {
@@ -361,14 +509,15 @@ fn random_table(random: &mut Random) -> Vec<u8> {
     };
     let mut bytes = head.record().to_vec();
     for number in 0..gates {
-        let slot = u16::from(random.byte_below(slots));
+        let left = u16::from(random.byte_below(slots.left()));
+        let right = u16::from(random.byte_below(slots.right()));
         let constant = i16::from(random.byte_below(p)) - i16::from(p / 2);
         let mut lower = || random.below(u64::from(number.max(1))) as u16;
         let (a, b) = (lower(), lower());
         let kinds = if number == 0 { 2 } else { 9 };
         let (kind, a, b) = match random.below(kinds) {
-            0 => (Kind::Left, slot, 0),
-            1 => (Kind::Right, slot, 0),
+            0 => (Kind::Left, left, 0),
+            1 => (Kind::Right, right, 0),
             2 => (Kind::Add, a, b),
             3 => (Kind::Sub, a, b),
             4 => (Kind::Flip, a, 0),
@@ -474,8 +623,8 @@ fn old_constants_gave_the_same() {
         let head = table.head;
         let old = old_gates(&table);
         changed += usize::from(!table.gates().eq(old.iter().copied()));
-        let left = random.bytes_below(head.p, usize::from(head.slots));
-        let right = random.bytes_below(head.p, usize::from(head.slots));
+        let left = random.bytes_below(head.p, usize::from(head.slots.left()));
+        let right = random.bytes_below(head.p, usize::from(head.slots.right()));
         let mut work = vec![0; old.len()];
         run(&bytes, &left, &right, &mut work).unwrap();
         let values = old_values(head.p, &old, &left, &right);
@@ -546,6 +695,13 @@ fn cards_read_back() {
     assert_eq!(card.conditions[1].relation, Relation::Unequal);
     assert_eq!(card.conditions[1].digits, 12);
     assert_eq!(card.conditions[1].weight, 21);
+    assert_eq!((card.left_slots(), card.conditions[1].first_left), (16, 4));
+    let card = Card::read(&shared_card(31, 77, &[(3, 4, 9), (6, 3, 11), (1, 5, 0)])).unwrap();
+    assert_eq!((card.p, card.weight, card.digits()), (31, 77, 12));
+    assert_eq!((card.form, card.total_weight()), (Form::Shared, 0));
+    assert_eq!(card.conditions[1].relation, Relation::Unequal);
+    assert_eq!(card.conditions[1].left_slots(), 11..14);
+    assert_eq!((card.left_slots(), card.conditions[2].first_left), (14, 0));
 }
 
 #[test]
@@ -561,6 +717,14 @@ fn tables_read_back() {
         lefts.map(|gate| gate.a).collect::<Vec<_>>(),
         [0, 1, 2, 3, 4, 5]
     );
+    let bytes = built(&shared_card(13, 77, &[(3, 4, 5), (6, 2, 4), (1, 2, 6)]));
+    let table = Table::read(&bytes).unwrap();
+    assert_eq!(table.head.record(), bytes[..8]);
+    assert_eq!(table.head.slots, Slots::Each { left: 9, right: 8 });
+    let slots = |kind| table.gates().filter(move |gate| gate.kind == kind);
+    let lefts: Vec<u16> = slots(Kind::Left).map(|gate| gate.a).collect();
+    assert_eq!(lefts, [5, 6, 7, 8, 4, 5, 6, 7]);
+    assert!(slots(Kind::Right).map(|gate| gate.a).eq(0..8));
 }
 
 #[test]
@@ -569,6 +733,9 @@ fn the_longest_tables_of_cards() {
     assert_eq!(built(&score_card(251, 50, &[(2, 16, 1)])).len(), 8 * 7_115);
     let two = score_card(251, 50, &[(2, 15, 1), (4, 1, 1)]);
     assert_eq!(built(&two).len(), 8 * 7_115);
+    assert_eq!(built(&shared_card(251, 50, &[(2, 16, 0)])).len(), 8 * 7_114);
+    let two = shared_card(251, 50, &[(2, 8, 0), (4, 8, 0)]);
+    assert_eq!(built(&two).len(), 8 * 7_110);
 }
 
 #[test]

@@ -1,11 +1,15 @@
 //! The cases that the document gives, starred ones too, and the rules of scored
-//! queries, of constants near zero and of the last-use list.
+//! queries, of constants near zero, of the last-use list and of two conditions
+//! over the same field.
 
-use second::card::{card_bytes as card, score_card_bytes as score_card};
+use second::card::{
+    card_bytes as card, score_card_bytes as score_card, shared_card_bytes as shared_card,
+};
 use second::field::{order_constants, PRIMES};
 use second::table::{Kind, Table};
 use second::{
-    build, check, decode, encode, forecast, last_uses, listing, run, Cost, Depth, Refusal, Report,
+    build, check, decode, encode, forecast, last_uses, listing, run, trim, Cost, Depth, Refusal,
+    Report,
 };
 
 const BENCH: [u8; 10] = [0xC5, 0x48, 0x03, 0x4B, 1, 0, 0xC5, 0x51, 1, 1];
@@ -376,6 +380,149 @@ fn last_uses_before_later_bytes() {
     table[6] = 8;
     assert_eq!(last_uses(&table, &mut list), Ok(8));
     assert_eq!(list, [7, 7, 4, 5, 6, 6, 6, 7]);
+}
+
+/// The first bench card as a shared card.
+#[test]
+fn shared_listing() {
+    let bench = shared_card(3, 75, &[(1, 1, 0)]);
+    assert_eq!(listing(&bench), listing(&BENCH));
+    let text = listing(&shared_card(3, 75, &[(5, 1, 3), (6, 1, 3)]));
+    let slots = |name| text.lines().filter(move |line| line.contains(name));
+    assert!(slots("LEFT").eq(["0 LEFT 3 0", "5 LEFT 3 0"]), "{text}");
+    assert!(slots("RIGHT").eq(["1 RIGHT 0 0", "6 RIGHT 1 0"]), "{text}");
+    assert_eq!(listing(&shared_card(3, 75, &[(1, 1, 16)])), "refused 28\n");
+}
+
+/// "Between 20 and 40 metres": three left slots and six right ones.
+#[test]
+fn between_20_and_40_metres() {
+    let card = shared_card(31, 75, &[(4, 3, 0), (2, 3, 0)]);
+    agree(&card, report(353, 91, 48, 12_700, 8));
+    let table = built(&card);
+    assert_eq!(table[..8], [0x47, 0x4A, 31, 75, 3, 6, 97, 1]);
+    let mut digits = [0; 9];
+    let [left, low, high] = digits.get_disjoint_mut([0..3, 3..6, 6..9]).unwrap();
+    encode(31, 3, 20, low).unwrap();
+    encode(31, 3, 40, high).unwrap();
+    let right = [&low[..], high].concat();
+    for (distance, holds) in [(19, 0), (20, 1), (34, 1), (40, 1), (41, 0)] {
+        encode(31, 3, distance, left).unwrap();
+        assert_eq!(run(&table, left, &right, &mut [0; 353]), Ok(holds));
+    }
+}
+
+/// "28, first slot plus n above 16, after 9 of its record and before a spare's
+/// 5."
+#[test]
+fn first_slots() {
+    for (n, first) in [(1, 0), (1, 15), (16, 0), (8, 8)] {
+        assert!(forecast(&shared_card(3, 50, &[(5, n, first)])).is_ok());
+        refused(&shared_card(3, 50, &[(5, n, 17 - n)]), 28);
+        refused(&shared_card(3, 50, &[(5, n, 255)]), 28);
+    }
+    for n in [0, 17, 255] {
+        refused(&shared_card(3, 50, &[(5, n, 255)]), 9);
+    }
+    let mut card = shared_card(3, 50, &[(5, 16, 1), (0, 0, 255)]);
+    card[11] = 1;
+    refused(&card, 28);
+    card[10] = 0;
+    refused(&card, 5);
+    card[11] = 0;
+    refused(&card, 8);
+}
+
+/// "Refusal 10 counts right slots."
+#[test]
+fn right_slots() {
+    assert!(forecast(&shared_card(3, 50, &[(5, 2, 0); 8])).is_ok());
+    refused(&shared_card(3, 50, &[(5, 8, 0), (5, 9, 0)]), 10);
+    refused(&shared_card(3, 50, &[(5, 16, 0), (5, 1, 0)]), 10);
+    refused(&shared_card(3, 50, &[(5, 16, 0), (5, 1, 16)]), 28);
+}
+
+/// "7 reads 6+6c", and the marks are the form's own.
+#[test]
+fn shared_form() {
+    let plain = card(7, 60, &[(1, 1), (5, 2), (6, 1)]);
+    let score = score_card(7, 60, &[(1, 1, 2), (5, 2, 3)]);
+    let shared = shared_card(7, 60, &[(1, 1, 2), (5, 2, 3)]);
+    for other in [plain, score] {
+        refused(&[&shared[..6], &other[6..]].concat(), 2);
+        refused(&[&other[..6], &shared[6..]].concat(), 2);
+    }
+    refused(&shared[..14], 7);
+    refused(&[&shared[..], &shared[6..12]].concat(), 7);
+}
+
+/// "Byte 4 the left slot count (highest used plus 1), byte 5 the right slot
+/// count."
+#[test]
+fn slot_counts_of_heads() {
+    for (conditions, counts) in [
+        (&[(5, 1, 0)][..], [1, 1]),
+        (&[(5, 1, 15)], [16, 1]),
+        (&[(5, 2, 3), (1, 2, 0)], [5, 4]),
+        (&[(5, 1, 7), (1, 3, 2), (6, 1, 0)], [8, 5]),
+        (&[(5, 2, 0); 8], [2, 16]),
+    ] {
+        let table = built(&shared_card(5, 50, conditions));
+        assert_eq!(table[..2], [0x47, 0x4A]);
+        assert_eq!(table[4..6], counts, "{conditions:?}");
+    }
+}
+
+/// "Both 1 to 16 under refusal 13", in 13's place; there is no spare.
+#[test]
+fn slot_counts() {
+    let mut table = built(&shared_card(3, 50, &[(5, 1, 0)]));
+    for left in 0..=255 {
+        for right in 0..=255 {
+            table[4..6].copy_from_slice(&[left, right]);
+            let fits = (1..=16).contains(&left) && (1..=16).contains(&right);
+            assert_eq!(check(&table).err(), (!fits).then_some(13));
+            assert_eq!(trim(&table).is_empty(), !fits);
+        }
+    }
+    table[6] = 0;
+    assert_eq!(check(&table), Err(13));
+    table[3] = 49;
+    assert_eq!(check(&table), Err(4));
+    table[3..6].copy_from_slice(&[50, 1, 16]);
+    assert_eq!(check(&table), Err(14));
+    table[1] = 0x48;
+    assert_eq!(check(&table), Err(5));
+    table[4] = 0;
+    assert_eq!(check(&table), Err(13));
+}
+
+/// "17 and 18 read each side against its own count": a gate that reads a slot,
+/// with each pair of counts.
+#[test]
+fn each_side_has_its_own_count() {
+    for (kind, slot) in (1..=2).flat_map(|kind| (0..=16).map(move |slot| (kind, slot))) {
+        for (left, right) in (1..=16).flat_map(|left| (1..=16).map(move |right| (left, right))) {
+            let table = [
+                0x47, 0x4A, 31, 50, left, right, 1, 0, //
+                0x47, 0x54, kind, 0, slot, 0, 0, 0,
+            ];
+            let lists: [Vec<u8>; 2] = [left, right].map(|count| (0..count).collect());
+            let outcome = run(&table, &lists[0], &lists[1], &mut [0]);
+            let count = [left, right][usize::from(kind) - 1];
+            let expected = if slot < count { Ok(slot) } else { Err(17) };
+            assert_eq!(outcome, expected, "{table:?}");
+            assert_eq!(check(&table).err(), expected.err());
+            let exchanged = run(&table, &lists[1], &lists[0], &mut [0]);
+            let same = left == right;
+            let expected = if slot < count && !same {
+                Err(18)
+            } else {
+                expected
+            };
+            assert_eq!(exchanged, expected, "{table:?}");
+        }
+    }
 }
 
 #[test]

@@ -1,9 +1,11 @@
 //! The last-use list: against its sentence, read word by word, on drawn tables,
 //! on built ones and on those of the case script.
 
-use second::card::{card_bytes as card, score_card_bytes as score_card};
+use second::card::{
+    card_bytes as card, score_card_bytes as score_card, shared_card_bytes as shared_card,
+};
 use second::field::PRIMES;
-use second::table::{Gate, Head, Kind};
+use second::table::{Gate, Head, Kind, Slots};
 use second::{answers, build, cases, check, forecast, last_uses, trim, Random};
 
 mod record;
@@ -89,7 +91,7 @@ fn random_table(random: &mut Random, gates: u16, reach: u16) -> Vec<u8> {
     let head = Head {
         p,
         weight: 50,
-        slots,
+        slots: Slots::Both(slots),
         gates,
     };
     let mut bytes = head.record().to_vec();
@@ -176,6 +178,12 @@ fn lists_of_built_tables() {
         }
         cards.push(card(13, 50, &[(relation, 2); 8]));
         cards.push(score_card(13, 50, &[(relation, 2, 1); 8]));
+        cards.push(shared_card(13, 50, &[(relation, 2, 1); 8]));
+        cards.push(shared_card(
+            5,
+            50,
+            &[(relation, 3, 2), (4, 3, 0), (5, 1, 9)],
+        ));
     }
     for card in &cards {
         let table = built(card);

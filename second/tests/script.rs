@@ -1,6 +1,6 @@
 //! The case script and its answers.
 
-use second::card::{Card, Form, SCORE_HEAD_MARK};
+use second::card::{Card, Form};
 use second::{answers, cases, expected_output};
 use std::collections::{BTreeMap, BTreeSet};
 
@@ -66,8 +66,8 @@ fn the_example() {
 fn the_script_keeps_its_form() {
     let script = cases();
     assert!(script.is_ascii() && script.ends_with('\n') && !script.contains('\r'));
-    assert!(script.len() <= 260_000);
-    assert!((3_000..=10_800).contains(&script.lines().count()));
+    assert!(script.len() <= 320_000);
+    assert!((3_000..=12_800).contains(&script.lines().count()));
     assert_eq!(script, cases());
     for line in script.lines() {
         let words: Vec<&str> = line.split(' ').collect();
@@ -108,8 +108,8 @@ fn each_refusal_of_each_operation_comes_up() {
         }
     }
     let expected: [(&str, &[u8]); 7] = [
-        ("forecast", &[1, 2, 3, 4, 5, 6, 7, 8, 9, 10, 25, 26]),
-        ("build", &[1, 2, 3, 4, 5, 6, 7, 8, 9, 10, 11, 25, 26]),
+        ("forecast", &[1, 2, 3, 4, 5, 6, 7, 8, 9, 10, 25, 26, 28]),
+        ("build", &[1, 2, 3, 4, 5, 6, 7, 8, 9, 10, 11, 25, 26, 28]),
         ("check", &[2, 3, 4, 5, 12, 13, 14, 15, 16, 17]),
         ("run", &[2, 3, 4, 5, 12, 13, 14, 15, 16, 17, 18, 19, 20]),
         ("last_uses", &[2, 3, 4, 5, 12, 13, 14, 15, 16, 17, 27]),
@@ -124,11 +124,12 @@ fn each_refusal_of_each_operation_comes_up() {
     }
 }
 
-#[test]
-fn each_refusal_of_score_cards_comes_up() {
+/// What Forecast and Build refuse of cards with the head mark of a form, each
+/// number with how often, and how many of the refusals are for a record's spare.
+fn card_refusals(form: Form) -> (BTreeMap<String, BTreeMap<u8, usize>>, usize) {
     let script = cases();
     let text = answers(&script);
-    let mut counts: BTreeMap<&str, BTreeMap<u8, usize>> = BTreeMap::new();
+    let mut counts: BTreeMap<String, BTreeMap<u8, usize>> = BTreeMap::new();
     let mut record_spares = 0;
     for (line, answer) in lines_with_answers(&script, &text) {
         let Some(number) = answer.and_then(refusal) else {
@@ -138,23 +139,30 @@ fn each_refusal_of_score_cards_comes_up() {
             continue;
         }
         let card = bytes(line.split(' ').next_back().unwrap());
-        if !card.starts_with(&SCORE_HEAD_MARK) {
+        if !card.starts_with(&form.head_mark()) {
             continue;
         }
-        *counts
-            .entry(word(line))
-            .or_default()
-            .entry(number)
-            .or_default() += 1;
+        let of_operation = counts.entry(word(line).to_string()).or_default();
+        *of_operation.entry(number).or_default() += 1;
         // 5 is the head's spare, or a record's where that one is 0.
         record_spares += usize::from(number == 5 && card[5] == 0);
     }
-    let numbers = |operation| counts[operation].keys().copied().collect::<Vec<u8>>();
-    assert_eq!(numbers("forecast"), [1, 2, 3, 4, 5, 6, 7, 8, 9, 10, 25, 26]);
-    // Only Forecast is asked of what is too short for a head.
-    assert_eq!(numbers("build"), [2, 3, 4, 5, 6, 7, 8, 9, 10, 11, 25, 26]);
-    assert!(counts["forecast"].values().all(|&n| n >= 3));
-    assert!(record_spares >= 3);
+    (counts, record_spares)
+}
+
+/// Only Forecast is asked of what is too short for a head.
+#[test]
+fn each_refusal_of_each_form_comes_up() {
+    for (form, own) in [(Form::Score, &[25, 26][..]), (Form::Shared, &[28])] {
+        let (counts, record_spares) = card_refusals(form);
+        let numbers = |operation: &str| counts[operation].keys().copied().collect::<Vec<u8>>();
+        let forecast = [&[1, 2, 3, 4, 5, 6, 7, 8, 9, 10], own].concat();
+        assert_eq!(numbers("forecast"), forecast);
+        let build = [&[2, 3, 4, 5, 6, 7, 8, 9, 10, 11], own].concat();
+        assert_eq!(numbers("build"), build);
+        assert!(counts["forecast"].values().all(|&n| n >= 3), "{form:?}");
+        assert!(record_spares >= 3, "{form:?}");
+    }
 }
 
 #[test]
@@ -378,6 +386,40 @@ fn built_runs<'a>(lines: &[(&'a str, Option<&str>)]) -> Vec<BuiltRun<'a>> {
     runs
 }
 
+/// The left slots of built shared cards: in common, some in common, exchanged,
+/// unused before others and between them, and those of a plain card.
+#[test]
+fn left_slots_of_each_kind_come_up() {
+    let script = cases();
+    let text = answers(&script);
+    let mut counts = [0; 6];
+    for run in built_runs(&lines_with_answers(&script, &text)) {
+        let card = Card::read(&run.card).unwrap();
+        if card.form != Form::Shared {
+            continue;
+        }
+        let fields: Vec<_> = card.conditions.iter().map(|c| c.left_slots()).collect();
+        let is_used = |slot: usize| fields.iter().any(|field| field.contains(&slot));
+        let pairs = || fields.iter().zip(&fields[1..]);
+        let mut next = 0;
+        let kinds = [
+            pairs().any(|(first, second)| first == second),
+            pairs().any(|(first, second)| first != second && first.contains(&second.start)),
+            pairs().any(|(first, second)| second.end <= first.start),
+            !is_used(0),
+            is_used(0) && (0..card.left_slots()).any(|slot| !is_used(slot)),
+            fields.len() > 1
+                && fields
+                    .iter()
+                    .all(|field| field.start == std::mem::replace(&mut next, field.end)),
+        ];
+        for (count, is_met) in counts.iter_mut().zip(kinds) {
+            *count += usize::from(is_met);
+        }
+    }
+    assert!(counts.iter().all(|&count| count >= 2), "{counts:?}");
+}
+
 /// Where the table is a built one, its output is what the numbers say.
 #[test]
 fn outputs_are_what_the_numbers_say() {
@@ -385,6 +427,7 @@ fn outputs_are_what_the_numbers_say() {
     let text = answers(&script);
     let mut plain = 0;
     let mut scores = 0;
+    let mut shared = BTreeMap::new();
     for run in built_runs(&lines_with_answers(&script, &text)) {
         let Some(said) = expected_output(&run.card, &run.left, &run.right) else {
             continue;
@@ -393,10 +436,13 @@ fn outputs_are_what_the_numbers_say() {
         match Card::read(&run.card).unwrap().form {
             Form::Plain => plain += 1,
             Form::Score => scores += 1,
+            Form::Shared => *shared.entry(said).or_insert(0) += 1,
         }
     }
     assert!(plain > 900, "{plain}");
     assert!(scores > 400, "{scores}");
+    // Many of either answer.
+    assert!(shared[&0] > 100 && shared[&1] > 80, "{shared:?}");
 }
 
 /// Of one to eight conditions none hold and all, and of two to eight a part.
@@ -427,7 +473,7 @@ fn scores_of_none_some_and_all_conditions_come_up() {
 }
 
 /// Each relation is built at each of these primes, and one to eight conditions
-/// are, in both forms.
+/// are, in all forms.
 #[test]
 fn relations_primes_and_conditions_come_up() {
     let script = cases();
@@ -435,6 +481,7 @@ fn relations_primes_and_conditions_come_up() {
     for (form, primes) in [
         (Form::Plain, &[3, 5, 7, 11, 13, 17, 31, 127, 251][..]),
         (Form::Score, &[3, 5, 251][..]),
+        (Form::Shared, &[3, 5, 251][..]),
     ] {
         let mut relations = BTreeSet::new();
         let mut counts = BTreeSet::new();

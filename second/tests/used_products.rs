@@ -1,9 +1,11 @@
 //! Products that nothing uses: against the request's sentence, read word by
 //! word, on drawn tables, on built ones and on those of the case script.
 
-use second::card::{card_bytes as card, score_card_bytes as score_card};
+use second::card::{
+    card_bytes as card, score_card_bytes as score_card, shared_card_bytes as shared_card,
+};
 use second::field::PRIMES;
-use second::table::{Gate, Head, Kind};
+use second::table::{Gate, Head, Kind, Slots};
 use second::{answers, build, cases, check, forecast, last_uses, run, trim, Random, Report};
 
 mod record;
@@ -122,7 +124,7 @@ fn table_of(p: u8, weight: u8, slots: u8, gates: &[Gate]) -> Vec<u8> {
     let head = Head {
         p,
         weight,
-        slots,
+        slots: Slots::Both(slots),
         gates: gates.len() as u16,
     };
     let mut bytes = head.record().to_vec();
@@ -518,9 +520,11 @@ fn expect_all_used(card: &[u8]) {
 }
 
 /// A card of each form with these conditions, but for those that score cards
-/// have too many of at small primes.
-fn both_forms(p: u8, conditions: &[(u8, u8)]) -> Vec<Vec<u8>> {
-    let mut cards = vec![card(p, 75, conditions)];
+/// have too many of at small primes. All conditions of the shared card have the
+/// same left slots, as far as they have equally many.
+fn all_forms(p: u8, conditions: &[(u8, u8)]) -> Vec<Vec<u8>> {
+    let shared: Vec<(u8, u8, u8)> = conditions.iter().map(|&(r, n)| (r, n, 0)).collect();
+    let mut cards = vec![card(p, 75, conditions), shared_card(p, 75, &shared)];
     if conditions.len() < usize::from(p) {
         let scored: Vec<(u8, u8, u8)> = conditions.iter().map(|&(r, n)| (r, n, 1)).collect();
         cards.push(score_card(p, 75, &scored));
@@ -533,7 +537,7 @@ fn one_condition_keeps_its_counts() {
     for p in PRIMES {
         for relation in 1..=6 {
             for n in [1, 2, 3, 5, 8, 16] {
-                for card in both_forms(p, &[(relation, n)]) {
+                for card in all_forms(p, &[(relation, n)]) {
                     expect_kept(&card);
                 }
             }
@@ -546,7 +550,7 @@ fn several_conditions_keep_their_counts() {
     let mut random = Random::new(13);
     for _ in 0..1_000 {
         let p = random.pick(&PRIMES);
-        for card in both_forms(p, &random_conditions(&mut random)) {
+        for card in all_forms(p, &random_conditions(&mut random)) {
             expect_kept(&card);
         }
     }
@@ -579,7 +583,7 @@ fn built_tables_use_all_products() {
             (127, 2),
             (251, 1),
         ] {
-            for card in both_forms(p, &[(relation, n)]) {
+            for card in all_forms(p, &[(relation, n)]) {
                 expect_all_used(&card);
             }
         }
@@ -587,7 +591,7 @@ fn built_tables_use_all_products() {
     let mut random = Random::new(14);
     for _ in 0..200 {
         let p = random.pick(&PRIMES[..12]);
-        for card in both_forms(p, &random_conditions(&mut random)) {
+        for card in all_forms(p, &random_conditions(&mut random)) {
             expect_all_used(&card);
         }
     }

@@ -1,7 +1,7 @@
--- The number of each refusal (document 01, "Operations and what they turn away"; document 02, E1 and E4), with the rule that gives it.
+-- The number of each refusal (document 01, "Operations and what they turn away"; document 02, E1, E4 and E6), with the rule that gives it.
 use Prim.Native.Nat.{ℕ}
 use Rattle.answer.specs.declared.Refusal.{Refusal}
-use Rattle.answer.specs.declared.Refusal.the-variants.{CardTooShort, WrongMark, PrimeNotListed, WeightOutOfRange, SpareNotZero, ConditionCount, CardLength, UnknownRelation, DigitCount, TooManyDigits, TableBufferTooSmall, TableHeadTooShort, SlotCount, GateCount, TableTooShort, UnknownKind, WrongOperand, ListLength, ValueTooLarge, WorkBufferTooSmall, OutBufferTooSmall, NumberTooLarge, DigitTooLarge, NumberTooWide, ScoreWeight, TotalWeight, LastUseListTooShort}
+use Rattle.answer.specs.declared.Refusal.the-variants.{CardTooShort, WrongMark, PrimeNotListed, WeightOutOfRange, SpareNotZero, ConditionCount, CardLength, UnknownRelation, DigitCount, TooManyDigits, TableBufferTooSmall, TableHeadTooShort, SlotCount, GateCount, TableTooShort, UnknownKind, WrongOperand, ListLength, ValueTooLarge, WorkBufferTooSmall, OutBufferTooSmall, NumberTooLarge, DigitTooLarge, NumberTooWide, ScoreWeight, TotalWeight, LastUseListTooShort, LeftSlotsOutOfRange}
 
 abbrev pub refusalNumber : Refusal → ℕ
 -- card under 6 bytes
@@ -16,19 +16,19 @@ refusalNumber WeightOutOfRange = 4
 refusalNumber SpareNotZero = 5
 -- c not 1 to 8
 refusalNumber ConditionCount = 6
--- length not 6+4c, or 6+6c of a score card
+-- length not 6+4c, or 6+6c of a score card and of a shared card
 refusalNumber CardLength = 7
 -- relation not 1 to 6
 refusalNumber UnknownRelation = 8
 -- n, or the length of a digit list, not 1 to 16
 refusalNumber DigitCount = 9
--- N over 16
+-- N over 16, of a shared card its right slots
 refusalNumber TooManyDigits = 10
 -- table lent under 8(G+1) bytes
 refusalNumber TableBufferTooSmall = 11
 -- table under 8 bytes
 refusalNumber TableHeadTooShort = 12
--- N not 1 to 16
+-- N, or the slot count of a side, not 1 to 16
 refusalNumber SlotCount = 13
 -- G not 1 to 8191
 refusalNumber GateCount = 14
@@ -38,7 +38,7 @@ refusalNumber TableTooShort = 15
 refusalNumber UnknownKind = 16
 -- an operand against its kind
 refusalNumber WrongOperand = 17
--- left or right list not N long
+-- left or right list not as long as its side has slots
 refusalNumber ListLength = 18
 -- a value of p or more
 refusalNumber ValueTooLarge = 19
@@ -58,3 +58,5 @@ refusalNumber ScoreWeight = 25
 refusalNumber TotalWeight = 26
 -- last-use list shorter than G
 refusalNumber LastUseListTooShort = 27
+-- first left slot plus n above 16
+refusalNumber LeftSlotsOutOfRange = 28

@@ -21,12 +21,13 @@ use Rattle.circuit.specs.Every.{Every}
 use Rattle.circuit.specs.Report.{report}
 use Rattle.circuit.specs.Segment as segment
 use Rattle.circuit.specs.Sums.{largest}
-use Rattle.circuit.specs.Table.{Head, headBytes, mostGates}
+use Rattle.circuit.specs.Table.{SlotCounts, Head, headBytes, mostGates}
 use Rattle.circuit.proofs.Bounds.{counts-below}
 use Rattle.circuit.proofs.Every.{every-map}
 use Rattle.circuit.proofs.Sums.{largest-covers, largest-within}
 use Rattle.comparison.specs.Condition.{Condition}
 use Rattle.query.specs.Card.{Card}
+use Rattle.query.specs.Form.{questionOf}
 use Rattle.query.specs.Formulas.{endSize}
 use Rattle.query.specs.Outcomes.{tableRoom, building, forecasting}
 use Rattle.query.specs.Promises.{ended}
@@ -39,7 +40,7 @@ use Rattle.query.proofs.Promises.{output-levels, end-has, exact-size, card-outp
 use Rattle.query.proofs.Reading.{reads}
 use Rattle.card.specs.declared.CardHead.{CardHead}
 use Rattle.card.specs.Conditions.{ReadAs, conditionsOf}
-use Rattle.card.specs.Parts.{Summary, summary, headIs, readSummary}
+use Rattle.card.specs.Parts.{Summary, summary, headIs, readSummary, slotsSaid}
 use Rattle.card.proofs.ReadAs.{Known, known-as}
 use Rattle.writer.specs.declared.Pen.{Pen}
 use Rattle.tree.specs.Factors.{Shallow}
@@ -68,7 +69,7 @@ module _ (bytes : List ℕ) (card : Card) (e : readCard bytes ≡ accepted card)
   draft = drafted p cs
 
   -- room for the conditions' gates and those after them
-  pub sizes : (length (draft .gates) + endSize (card .form) (length cs) ≡ length (tableOf card .gates))
+  pub sizes : (length (draft .gates) + endSize (questionOf (card .form)) (length cs) ≡ length (tableOf card .gates))
       × (length (tableOf card .gates) ≤ mostGates)
   sizes =
       (omega (arith, length-append (draft .gates) (ended card .gates), end-has bytes card e .0), exact-size bytes card e .1)
@@ -89,7 +90,7 @@ module _ (bytes : List ℕ) (card : Card) (e : readCard bytes ≡ accepted card)
 
   -- what ends the table, from gate number k on
   abbrev endAt : ℕ → segment.Segment
-  endAt k = endBy (card .form) p cs k (draft .outputs)
+  endAt k = endBy (questionOf (card .form)) p cs k (draft .outputs)
 
   module _ (lent table₂ table₃ : List ℕ) (pen pen₃ : Pen) (deep : ℕ) (room : tableRoom (tableOf card) ≤ length lent)
       (conditions : Wrote (sets lent 0 (headBytes (tableOf card .head) (length (tableOf card .gates)))) fresh (draft .gates) table₂ pen)
@@ -119,8 +120,8 @@ module _ (bytes : List ℕ) (card : Card) (e : readCard bytes ≡ accepted card)
 -- ---- the same in the terms of the code, which holds what the card says and the gate count
 
 module _ {bytes lent : List ℕ} {said : Summary} {count : ℕ} (b : Buildable bytes lent said count) where
-  abbrev pub headOf : Head
-  headOf = record { prime = said .prime; weight = said .weight; slots = said .slots }
+  abbrev headOf : SlotCounts → Head
+  headOf slots = record { prime = said .prime; weight = said .weight; slots = slots }
 
   -- the card was read so
   pub read-so : accepted said ≡ readSummary bytes
@@ -133,19 +134,19 @@ module _ {bytes lent : List ℕ} {said : Summary} {count : ℕ} (b : Buildable b
   is-filled = rw (b .says, b .reads)
 
   -- room for the conditions, and for what comes after them
-  pub room-said : (8 * (length (draftSaid .gates) + endSize (said .form) (said .count) + 1) ≤ length lent)
-      × (length (draftSaid .gates) + endSize (said .form) (said .count) ≤ mostGates)
+  pub room-said : (8 * (length (draftSaid .gates) + endSize (questionOf (said .form)) (said .count) + 1) ≤ length lent)
+      × (length (draftSaid .gates) + endSize (questionOf (said .form)) (said .count) ≤ mostGates)
   room-said =
       let s = sizes bytes (b .card) (b .reads) in
       let same = ap (λ (d : Draft). length (d .gates)) is-filled in
-      let end = ap (λ (t : Summary). endSize (t .form) (t .count)) (b .says) in
+      let end = ap (λ (t : Summary). endSize (questionOf (t .form)) (t .count)) (b .says) in
       (omega (arith, s, same, end, b .room), omega (arith, s, same, end))
 
   -- ---- the outputs, and what ends the table over them
 
   -- by what the card says, over any outputs
   abbrev endSaid : ℕ → List segment.Node → segment.Segment
-  endSaid k outputs = endBy (said .form) (said .prime) (conditionsOf bytes) k outputs
+  endSaid k outputs = endBy (questionOf (said .form)) (said .prime) (conditionsOf bytes) k outputs
 
   module _ {factors : List segment.Node} (are : factors ≡ draftSaid .outputs) where
     factors-are : factors ≡ filled (b .card) .outputs
@@ -154,13 +155,14 @@ module _ {bytes lent : List ℕ} {said : Summary} {count : ℕ} (b : Buildable b
     pub shallow-said : {n : ℕ} → n ≡ said .count → Shallow n factors
     shallow-said many = rw (factors-are, many, b .says) (shallow bytes (b .card) (b .reads))
 
-    module _ {table₁ table₂ table₃ : List ℕ} {pen pen₃ : Pen} {deep : ℕ} (head : table₁ ≡ sets lent 0 (headBytes headOf count))
+    module _ {table₁ table₂ table₃ : List ℕ} {slots : SlotCounts} {pen pen₃ : Pen} {deep : ℕ}
+        (counts : slots ≡ slotsSaid said) (head : table₁ ≡ sets lent 0 (headBytes (headOf slots) count))
         (conditions : Wrote table₁ fresh (draftSaid .gates) table₂ pen)
         (end : Wrote table₂ pen (endSaid (pen .next) factors .gates) table₃ pen₃)
         (output : deep ≡ endSaid (pen .next) factors .output .depth) where
       first : Wrote (sets lent 0 (headBytes (tableOf (b .card) .head) (length (tableOf (b .card) .gates)))) fresh
           (filled (b .card) .gates) table₂ pen
-      first = rw (head, b .says, b .gates) at (same-gates (ap (λ (d : Draft). d .gates) is-filled) conditions)
+      first = rw (head, counts, b .says, b .gates) at (same-gates (ap (λ (d : Draft). d .gates) is-filled) conditions)
 
       -- the same of the card that was read
       abbrev endRead : segment.Segment

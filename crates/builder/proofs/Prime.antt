@@ -12,7 +12,7 @@ use Rattle.circuit.proofs.Constant.{bits-code}
 use Rattle.circuit.proofs.Every.{every-drop}
 use Rattle.comparison.specs.OrderDigit.{powerCount}
 use Rattle.query.specs.Card.{AsksScore, totalWeight}
-use Rattle.query.specs.Form.{Scored, isScored}
+use Rattle.query.specs.Form.{Score, questionOf}
 use Rattle.query.proofs.CardFacts.{accepted-card}
 use Rattle.query.proofs.Score.{each-below}
 use Rattle.constants.specs.Constants.{mostConstants}
@@ -34,14 +34,13 @@ prime-suits bytes head e =
     ((known .low, known .odd, omega (arith, known .high)), omega (arith, known .high), omega (arith, known .high))
 
 -- a weight of a score card is below it, and so is read back from its sixteen bits
-pub weight-read : (bytes : List ℕ) (head : CardHead) (k w : ℕ) → ReadAs bytes head → formIs (head .form) ≡ Scored → IsWeight (conditionsOf bytes) k w
+pub weight-read : (bytes : List ℕ) (head : CardHead) (k w : ℕ) → ReadAs bytes head → questionOf (formIs (head .form)) ≡ Score → IsWeight (conditionsOf bytes) k w
     → signed (bitsOf (head .prime) (residue (head .prime) w)) ≡ code (head .prime) w
-weight-read bytes head k w e scored is =
+weight-read bytes head k w e score is =
     let all = known-as bytes head e in
     let known = accepted-card bytes (all .card) (all .reads) in
     let p : head .prime ≡ all .card .prime = ap (λ (s : Summary). s .prime) (all .says) in
-    let form : all .card .form ≡ Scored = sym (ap (λ (s : Summary). s .form) (all .says)) ∙ scored in
-    let asks : AsksScore (all .card) = ap isScored form in
+    let asks : AsksScore (all .card) = sym (ap (λ (s : Summary). questionOf (s .form)) (all .says)) ∙ score in
     let below : totalWeight (conditionsOf bytes) < head .prime = omega (arith, ap totalWeight (all .conditions), p, known .weights asks) in
     let each = every-drop (λ (v : ℕ). v < head .prime) k _ (each-below (head .prime) (conditionsOf bytes) below) in
     let here : w < head .prime = subst (Every (λ (v : ℕ). v < head .prime)) is each .0 in

@@ -4,7 +4,7 @@ use mathlib.Core.List.{List}
 use Prim.Native.Nat.{ℕ, _≤_}
 use lib.ListN.{length, take}
 use Rattle.circuit.specs.Segment.{Node, Segment}
-use Rattle.query.specs.Form.{Form}
+use Rattle.query.specs.Form.{Question}
 use Rattle.query.specs.Whole.{endBy}
 use Rattle.tree.specs.Factors.{nodes}
 use Rattle.card.specs.declared.CardHead.{CardHead}
@@ -16,10 +16,10 @@ use Rattle.writer.specs.Pen.{Room}
 abbrev pub outputsOf : CardHead → List ℕ → List ℕ → List Node
 outputsOf head gates depths = nodes (take (head .count) gates) (take (head .count) depths)
 
--- what ends the table of a card of this form, from where the pen stands
-abbrev pub endFrom : Form → List ℕ → CardHead → Pen → List ℕ → List ℕ → Segment
-endFrom form card head pen gates depths =
-    endBy form (head .prime) (conditionsOf card) (pen .next) (outputsOf head gates depths)
+-- what ends the table of a card that asks this, from where the pen stands
+abbrev pub endFrom : Question → List ℕ → CardHead → Pen → List ℕ → List ℕ → Segment
+endFrom q card head pen gates depths =
+    endBy q (head .prime) (conditionsOf card) (pen .next) (outputsOf head gates depths)
 
 -- a card that was read, an output of each of its conditions, and room for so many gates
 pub record Endable (card : List ℕ) (head : CardHead) (size : ℕ) (table : List ℕ) (pen : Pen) (gates depths : List ℕ) : Type 0 where

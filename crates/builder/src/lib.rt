@@ -5,7 +5,7 @@ use answer::Report;
 use answer::Reported;
 use card::CardHead;
 use card::CardRead;
-use card::Form;
+use card::Question;
 use condition::put_condition;
 use writer::Node;
 use writer::Pen;
@@ -23,7 +23,7 @@ ghost use Rattle.powers.specs.Powers.{mostPowers};
 ghost use Rattle.tree.specs.Factors.{Shallow};
 ghost use Rattle.writer.specs.Nodes.{nodeIs};
 ghost use Rattle.writer.specs.Pen.{fresh, Wrote, Moved};
-ghost use Rattle.query.specs.Form.{Scored};
+ghost use Rattle.query.specs.Form.{Score, questionOf};
 ghost use Rattle.query.specs.Formulas.{endSize};
 ghost use Rattle.query.specs.Outcomes.{building};
 ghost use Rattle.card.specs.Conditions.{ReadAs, conditionsOf};
@@ -110,10 +110,10 @@ fn put_score(
     gates: &[u16],
     depths: &[u16],
 ) -> Written
-    requires { ⌜ Endable (now card) head (endSize Scored (head .count)) (now table) pen (now gates) (now depths) ⌝ }
-    requires { ⌜ formIs (head .form) ≡ Scored ⌝ }
-    ensures wrote { λ r. ⌜ Wrote (now (table .entry)) pen (endFrom Scored (now (card .entry)) head pen (now (gates .entry)) (now (depths .entry)) .gates) (now (table .exit)) (r .pen) ⌝ }
-    ensures output { λ r. ⌜ nodeIs (r .node) ≡ endFrom Scored (now (card .entry)) head pen (now (gates .entry)) (now (depths .entry)) .output ⌝ }
+    requires { ⌜ Endable (now card) head (endSize Score (head .count)) (now table) pen (now gates) (now depths) ⌝ }
+    requires { ⌜ questionOf (formIs (head .form)) ≡ Score ⌝ }
+    ensures wrote { λ r. ⌜ Wrote (now (table .entry)) pen (endFrom Score (now (card .entry)) head pen (now (gates .entry)) (now (depths .entry)) .gates) (now (table .exit)) (r .pen) ⌝ }
+    ensures output { λ r. ⌜ nodeIs (r .node) ≡ endFrom Score (now (card .entry)) head pen (now (gates .entry)) (now (depths .entry)) .output ⌝ }
 {
     let b = constants::bits_of(card::weight_of(card, head, 0) as u16, head.prime);
     let mut sum = Written {
@@ -146,17 +146,17 @@ fn put_end(
     gates: &mut [u16],
     depths: &mut [u16],
 ) -> Written
-    requires { ⌜ Endable (now card) head (endSize (formIs (head .form)) (head .count)) (now table) pen (now gates) (now depths) ⌝ }
+    requires { ⌜ Endable (now card) head (endSize (questionOf (formIs (head .form))) (head .count)) (now table) pen (now gates) (now depths) ⌝ }
     requires { ⌜ Shallow (head .count) (outputsOf head (now gates) (now depths)) ⌝ }
-    ensures wrote { λ r. ⌜ Wrote (now (table .entry)) pen (endFrom (formIs (head .form)) (now (card .entry)) head pen (now (gates .entry)) (now (depths .entry)) .gates) (now (table .exit)) (r .pen) ⌝ }
-    ensures output { λ r. ⌜ nodeIs (r .node) ≡ endFrom (formIs (head .form)) (now (card .entry)) head pen (now (gates .entry)) (now (depths .entry)) .output ⌝ }
+    ensures wrote { λ r. ⌜ Wrote (now (table .entry)) pen (endFrom (questionOf (formIs (head .form))) (now (card .entry)) head pen (now (gates .entry)) (now (depths .entry)) .gates) (now (table .exit)) (r .pen) ⌝ }
+    ensures output { λ r. ⌜ nodeIs (r .node) ≡ endFrom (questionOf (formIs (head .form))) (now (card .entry)) head pen (now (gates .entry)) (now (depths .entry)) .output ⌝ }
 {
     let form = head.form;
-    match form {
-        Form::Plain => {
+    match card::question_of(form) {
+        Question::YesOrNo => {
             tree::put_product_tree(table, pen, gates, depths, arithmetic::wide(head.count))
         }
-        Form::Scored => put_score(card, head, table, pen, gates, depths),
+        Question::Score => put_score(card, head, table, pen, gates, depths),
     }
 }
 
@@ -192,7 +192,13 @@ fn write_table(
     ensures leaves { λ r. ⌜ now (table .exit) ≡ building (now (card .entry)) (now (table .entry)) .lent ⌝ }
 {
     prepare_order(card, head, constants, powers);
-    writer::put_head(table, head.prime, head.weight, head.slots, count);
+    writer::put_head(
+        table,
+        head.prime,
+        head.weight,
+        card::slot_counts(head),
+        count,
+    );
     let pen = put_conditions(card, head, table, constants, powers, gates, depths);
     let end = put_end(card, head, table, pen, gates, depths);
     report_of(end, head.weight)

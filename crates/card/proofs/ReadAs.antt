@@ -22,17 +22,17 @@ use Rattle.comparison.specs.Condition.{Condition, HasSlots}
 use Rattle.comparison.specs.Relation.{Relation, relationNumber}
 use Rattle.comparison.proofs.Relations.{same-relation}
 use Rattle.query.specs.Card.{Card, mostConditions, slotsOf}
-use Rattle.query.specs.Form.{headSize, Form, Plain, Scored, recordSize, takesNext}
+use Rattle.query.specs.Form.{headSize, Form, Plain, Scored, Shared, recordSize, takesNext}
 use Rattle.query.specs.Reading.{readCondition, readCard}
 use Rattle.query.specs.Score.{weightsOf}
 use Rattle.query.proofs.CardFacts.{accepted-card}
-use Rattle.query.proofs.Form.{tail-left, tail-right, Tail}
+use Rattle.query.proofs.Form.{plain≢shared, scored≢shared, shared-keeps, tail-left, tail-right, Tail}
 use Rattle.query.proofs.OverConditions.{over-append}
 use Rattle.query.proofs.Reading.{Says, says, condition-at, reads}
 use Rattle.relations.specs.Relations.{relationIs}
 use Rattle.card.specs.declared.CardHead.{CardHead}
 use Rattle.card.specs.declared.Record.{Record}
-use Rattle.card.specs.Parts.{formIs, recordIs, weightIn, Summary, summary, headIs}
+use Rattle.card.specs.Parts.{formIs, recordIs, weightIn, leftIn, Summary, summary, headIs}
 use Rattle.card.specs.Conditions.{ReadAs, conditionsOf, Taken, IsRecord, IsWeight}
 use Rattle.card.proofs.Conditions.{record-within}
 
@@ -167,6 +167,14 @@ weight-in : (form : Form) (p slot : ℕ) (r : Relation) (n : ℕ) (bytes : List 
     → Tail form p slot r n bytes c → c .weight ≡ weightIn form bytes
 weight-in Plain p slot r n bytes c l t = eqb-true (c .weight) 0 (both (takesNext slot c) _ (t .kept) .1)
 weight-in Scored p slot r n bytes c l t = ap (λ (tail : List ℕ). getD tail 0 0) (sym (t .after l)) ∙ getD-drop 4 bytes 0 0
+weight-in Shared p slot r n bytes c l t = shared-keeps p slot c (t .kept) .2
+
+-- its first left slot, likewise
+left-in : (form : Form) (p slot : ℕ) (r : Relation) (n : ℕ) (bytes : List ℕ) (c : Condition) → recordSize form ≤ length bytes
+    → Tail form p slot r n bytes c → c .left ≡ leftIn form slot bytes
+left-in Plain p slot r n bytes c l t = tail-left Plain p slot c plain≢shared (t .kept)
+left-in Scored p slot r n bytes c l t = tail-left Scored p slot c scored≢shared (t .kept)
+left-in Shared p slot r n bytes c l t = ap (λ (tail : List ℕ). getD tail 0 0) (sym (t .after l)) ∙ getD-drop 4 bytes 0 0
 
 abbrev conditionWith : Relation → ℕ → ℕ → ℕ → ℕ → Condition
 conditionWith r n l s w = record { relation = r; digits = n; left = l; right = s; weight = w }
@@ -180,22 +188,26 @@ module _ (form : Form) (p slot at : ℕ) (bytes : List ℕ) (c : Condition) (l :
   pub relation-in : relationNumber (c .relation) ≡ byte bytes (at + 2)
   relation-in = told .relation ∙ getD-drop at bytes 2 0
 
-  -- its weight, where its form keeps it
+  long : recordSize form ≤ length (drop at bytes)
+  long = rw length-drop (omega arith)
+
+  -- its weight and its first left slot, where its form keeps them
   pub weight-told : c .weight ≡ weightIn form (drop at bytes)
-  weight-told =
-      let long : recordSize form ≤ length (drop at bytes) = rw length-drop (omega arith) in
-      weight-in form p slot _ _ (drop at bytes) c long (told .tail)
+  weight-told = weight-in form p slot _ _ (drop at bytes) c long (told .tail)
+
+  left-told : c .left ≡ leftIn form slot (drop at bytes)
+  left-told = left-in form p slot _ _ (drop at bytes) c long (told .tail)
 
   -- so a record with these fields is the condition
   pub is-condition : (r : Record) → relationNumber (relationIs (r .relation)) ≡ byte bytes (at + 2) → r .digits ≡ byte bytes (at + 3)
-      → r .left ≡ slot → r .right ≡ slot → r .weight ≡ weightIn form (drop at bytes) → recordIs r ≡ c
+      → r .left ≡ leftIn form slot (drop at bytes) → r .right ≡ slot → r .weight ≡ weightIn form (drop at bytes) → recordIs r ≡ c
   is-condition r number digits left right weight =
       let relation = same-relation (relationIs (r .relation)) (c .relation) (number ∙ sym relation-in) in
       let count = digits ∙ sym (told .tail .digits ∙ getD-drop at bytes 3 0) in
       let heavy = weight ∙ sym weight-told in
       let kept = told .tail .kept in
       ap₂ (λ (q : Relation) (n : ℕ). conditionWith q n (r .left) (r .right) (r .weight)) relation count
-      ∙ ap₂ (λ (a b : ℕ). conditionWith (c .relation) (c .digits) a b (r .weight)) (left ∙ sym (tail-left form p slot c kept)) (right ∙ sym (tail-right form p slot c kept))
+      ∙ ap₂ (λ (a b : ℕ). conditionWith (c .relation) (c .digits) a b (r .weight)) (left ∙ sym left-told) (right ∙ sym (tail-right form p slot c kept))
       ∙ ap (conditionWith (c .relation) (c .digits) (c .left) (c .right)) heavy
 
 -- the weight of a condition is that of its number

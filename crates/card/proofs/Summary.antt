@@ -29,17 +29,17 @@ module _ (form : Form) (p s count : ℕ) (records : List ℕ) where
   pub told-refused : (number : ℕ) → refused number ≡ readSums form p count records → refused number ≡ telling form p s count records
   told-refused number e = rw (was-refused number (readConditions form p 0 count records) sumsOf e)
 
-  -- what is said with so many slots
-  abbrev said : ℕ → Summary
-  said slots = record { form = form; prime = p; weight = s; count = count; slots = slots }
+  -- what is said with such sums
+  abbrev said : Sums → Summary
+  said sums = record { form = form; prime = p; weight = s; count = count; slots = sums .slots; left = sums .left }
 
   -- the conditions that were read
   told : (cs : List Condition) (sums : Sums) → readConditions form p 0 count records ≡ accepted cs → sumsOf cs ≡ sums → length cs ≡ count
-      → withinLimits form p (sums .slots) (sums .weights) (said (sums .slots)) ≡ telling form p s count records
+      → withinLimits form p (sums .slots) (sums .weights) (said sums) ≡ telling form p s count records
   told cs sums e sum size = rw (e, ← sum, ← size, onAnswer-rule, onAnswer-rule)
 
   pub told-sums : (sums : Sums) → accepted sums ≡ readSums form p count records
-      → withinLimits form p (sums .slots) (sums .weights) (said (sums .slots)) ≡ telling form p s count records
+      → withinLimits form p (sums .slots) (sums .weights) (said sums) ≡ telling form p s count records
   told-sums sums e =
       let read = answered (readConditions form p 0 count records) (λ cs. accepted (sumsOf cs)) (sym e) in
       told (read .0) sums (read .1) (accepted-same (read .2)) (conditions-placed form p 0 count records (read .0) (read .1) .0)

@@ -2,17 +2,19 @@
 use answer::Refusal;
 use records::LEAST_WEIGHT;
 use records::MOST_WEIGHT;
+use records::SlotCounts;
 use relations::Relation;
 ghost use mathlib.Core.Path.{_≡_};
-ghost use Prim.Native.Nat.{_+_, _*_, _≤_, _<_};
+ghost use Prim.Native.Nat.{ℕ, _+_, _*_, _≤_, _<_, max};
 ghost use lib.ListN.{length, drop};
 ghost use Rattle.circuit.specs.Bytes.{wrongMark};
 ghost use Rattle.comparison.specs.Relation.{relationNumber};
 ghost use Rattle.query.specs.Card.{mostConditions, wrongTotal};
-ghost use Rattle.query.specs.Form.{headSize, Scored, recordMarkOf, recordSize, formOf, readTail};
+ghost use Rattle.query.specs.Form.{headSize, Scored, Shared, questionOf, recordMarkOf, recordSize, formOf, readTail};
 ghost use Rattle.query.specs.Reading.{readCounted, readCondition, withinLimits};
+ghost use Rattle.records.specs.Head.{slotsIs};
 ghost use Rattle.relations.specs.Relations.{relationIs};
-ghost use Rattle.card.specs.Parts.{formIs, formAnswer, recordAnswer, weightIn, sumsAnswer, readSums, headIs, cardAnswer, readSummary, readFormedSummary};
+ghost use Rattle.card.specs.Parts.{formIs, formAnswer, questionIs, recordAnswer, weightIn, leftIn, sumsAnswer, readSums, headIs, cardAnswer, readSummary, readFormedSummary, slotsSaid};
 ghost use Rattle.card.specs.Conditions.{ReadAs, conditionsOf, Taken, IsRecord, IsWeight};
 
 // For each form the marks of a head and of a record, and the bytes of a record.
@@ -27,6 +29,12 @@ const SCORE_HEAD: [u8; 2] = [0xC5, 0x53];
 const SCORE_RECORD: [u8; 2] = [0xC5, 0x57];
 
 const SCORE_SIZE: usize = 6;
+
+const SHARED_HEAD: [u8; 2] = [0xC5, 0x4A];
+
+const SHARED_RECORD: [u8; 2] = [0xC5, 0x52];
+
+const SHARED_SIZE: usize = 6;
 
 // The bytes of a head.
 pub const HEAD: usize = 6;
@@ -44,6 +52,13 @@ pub const MOST_CONDITIONS: usize = 8;
 pub enum Form {
     Plain,
     Scored,
+    Shared,
+}
+
+// What a card asks for.
+pub enum Question {
+    YesOrNo,
+    Score,
 }
 
 // The form of a card, or why its mark is refused.
@@ -67,25 +82,27 @@ enum RecordRead {
     Refused(Refusal),
 }
 
-// The digits of all conditions together, and their weights.
+// The digits of all conditions together, their weights, and where the last of their left slots ends.
 struct Sums {
     slots: u8,
     weights: u16,
+    left: u8,
 }
 
-// The digits and weights of all conditions together, or why a record is refused.
+// The sums over all conditions, or why a record is refused.
 enum SumsRead {
     Read(Sums),
     Refused(Refusal),
 }
 
-// The form, the prime, the weight of a square, the condition count and the slot count.
+// The form, the prime, the weight of a square, the condition count, the digits of all conditions and the left slots that they use.
 pub struct CardHead {
     pub form: Form,
     pub prime: u8,
     pub weight: u8,
     pub count: u8,
     pub slots: u8,
+    pub left: u8,
 }
 
 // What an accepted card says as a whole, or why a card is refused.
@@ -105,6 +122,9 @@ fn form_of(card: &[u8]) -> FormRead
     if !records::lacks_mark(card, SCORE_HEAD) {
         return FormRead::Read(Form::Scored);
     }
+    if !records::lacks_mark(card, SHARED_HEAD) {
+        return FormRead::Read(Form::Shared);
+    }
     FormRead::Refused(Refusal::WrongMark)
 }
 
@@ -115,6 +135,18 @@ fn record_size(form: Form) -> usize
     match form {
         Form::Plain => PLAIN_SIZE,
         Form::Scored => SCORE_SIZE,
+        Form::Shared => SHARED_SIZE,
+    }
+}
+
+// What a card of a form asks for.
+pub fn question_of(form: Form) -> Question
+    ensures { λ r. ⌜ questionIs r ≡ questionOf (formIs form) ⌝ }
+{
+    match form {
+        Form::Plain => Question::YesOrNo,
+        Form::Scored => Question::Score,
+        Form::Shared => Question::YesOrNo,
     }
 }
 
@@ -126,6 +158,7 @@ fn lacks_record_mark(bytes: &[u8], form: Form) -> bool
     match form {
         Form::Plain => records::lacks_mark(bytes, PLAIN_RECORD),
         Form::Scored => records::lacks_mark(bytes, SCORE_RECORD),
+        Form::Shared => records::lacks_mark(bytes, SHARED_RECORD),
     }
 }
 
@@ -166,6 +199,28 @@ fn read_weighed(bytes: &[u8], prime: u8, slot: u8, relation: Relation, digits: u
     })
 }
 
+// A record of a shared card whose relation and digit count are known, or 28, or 5. The record tells its first left slot.
+fn read_shared(bytes: &[u8], slot: u8, relation: Relation, digits: u8) -> RecordRead
+    requires { ⌜ recordSize Shared ≤ length (now bytes) ⌝ }
+    ensures { λ r. ⌜ ((p : ℕ) → recordAnswer r ≡ readTail Shared p slot (relationIs relation) digits (now (bytes .entry))) ⌝ }
+{
+    let left = bytes[4];
+    let spare = bytes[5];
+    if digits::MOST_DIGITS < arithmetic::wide(left) + arithmetic::wide(digits) {
+        return RecordRead::Refused(Refusal::LeftSlotsOutOfRange);
+    }
+    if spare != 0 {
+        return RecordRead::Refused(Refusal::SpareNotZero);
+    }
+    RecordRead::Read(Record {
+        relation,
+        digits,
+        left,
+        right: slot,
+        weight: 0,
+    })
+}
+
 // A record whose relation is known, or 9, or what its form asks after that, which may go by the prime.
 fn read_counted(bytes: &[u8], form: Form, prime: u8, slot: u8, relation: Relation) -> RecordRead
     requires { ⌜ recordSize (formIs form) ≤ length (now bytes) ⌝ }
@@ -184,6 +239,7 @@ fn read_counted(bytes: &[u8], form: Form, prime: u8, slot: u8, relation: Relatio
             weight: 0,
         }),
         Form::Scored => read_weighed(bytes, prime, slot, relation, digits),
+        Form::Shared => read_shared(bytes, slot, relation, digits),
     }
 }
 
@@ -202,7 +258,19 @@ fn read_record(bytes: &[u8], form: Form, prime: u8, slot: u8) -> RecordRead
     read_counted(bytes, form, prime, slot, relation_of(number))
 }
 
-// The digits and weights of the first count records together, or the first of their rules that is broken.
+// The larger of a left slot count and the end of a condition's left slots.
+fn count_left(left: u8, condition: Record) -> u8
+    requires { ⌜ condition .left + condition .digits ≤ 255 ⌝ }
+    ensures { λ r. ⌜ r ≡ max left (condition .left + condition .digits) ⌝ }
+{
+    let end = condition.left + condition.digits;
+    if left < end {
+        return end;
+    }
+    left
+}
+
+// The sums over the first count records, or the first of their rules that is broken.
 fn read_conditions(records: &[u8], form: Form, prime: u8, count: usize) -> SumsRead
     requires { ⌜ (count ≤ mostConditions) × (recordSize (formIs form) * count ≤ length (now records)) ⌝ }
     ensures { λ r. ⌜ sumsAnswer r ≡ readSums (formIs form) prime count (now (records .entry)) ⌝ }
@@ -210,6 +278,7 @@ fn read_conditions(records: &[u8], form: Form, prime: u8, count: usize) -> SumsR
     let size = record_size(form);
     let mut slots = 0;
     let mut weights = 0;
+    let mut left = 0;
     let mut k = 0;
     while k < count {
         let at = size * k;
@@ -217,21 +286,26 @@ fn read_conditions(records: &[u8], form: Form, prime: u8, count: usize) -> SumsR
             RecordRead::Read(condition) => {
                 slots += condition.digits;
                 weights += condition.weight as u16;
+                left = count_left(left, condition);
             }
             RecordRead::Refused(why) => return SumsRead::Refused(why),
         }
         k += 1;
     }
-    SumsRead::Read(Sums { slots, weights })
+    SumsRead::Read(Sums {
+        slots,
+        weights,
+        left,
+    })
 }
 
 // Whether the weights of a score together are not below the prime.
-fn reaches_prime(form: Form, prime: u8, weights: u16) -> bool
-    ensures { λ r. ⌜ r ≡ wrongTotal (formIs form) prime weights ⌝ }
+fn reaches_prime(question: Question, prime: u8, weights: u16) -> bool
+    ensures { λ r. ⌜ r ≡ wrongTotal (questionIs question) prime weights ⌝ }
 {
-    match form {
-        Form::Plain => false,
-        Form::Scored => (prime as u16) <= weights,
+    match question {
+        Question::YesOrNo => false,
+        Question::Score => (prime as u16) <= weights,
     }
 }
 
@@ -243,7 +317,7 @@ fn limit_sums(head: CardHead, weights: u16) -> CardRead
         return CardRead::Refused(Refusal::TooManyDigits);
     }
     let form = head.form;
-    if reaches_prime(form, head.prime, weights) {
+    if reaches_prime(question_of(form), head.prime, weights) {
         return CardRead::Refused(Refusal::TotalWeight);
     }
     CardRead::Read(head)
@@ -281,6 +355,7 @@ fn read_formed(card: &[u8], form: Form) -> CardRead
                 weight,
                 count,
                 slots: sums.slots,
+                left: sums.left,
             },
             sums.weights,
         ),
@@ -309,6 +384,19 @@ fn weight_at(card: &[u8], form: Form, at: usize) -> u8
     match form {
         Form::Plain => 0,
         Form::Scored => card[at + 4],
+        Form::Shared => 0,
+    }
+}
+
+// The first left slot in the record from this byte on, or where its form has none the next slot that is free.
+fn left_at(card: &[u8], form: Form, at: usize, slot: u8) -> u8
+    requires { ⌜ at + recordSize (formIs form) ≤ length (now card) ⌝ }
+    ensures { λ r. ⌜ r ≡ leftIn (formIs form) slot (drop at (now (card .entry))) ⌝ }
+{
+    match form {
+        Form::Plain => slot,
+        Form::Scored => slot,
+        Form::Shared => card[at + 4],
     }
 }
 
@@ -332,8 +420,20 @@ pub fn record_at(card: &[u8], head: CardHead, k: usize, slot: u8) -> Record
     Record {
         relation,
         digits: card[at + 3],
-        left: slot,
+        left: left_at(card, form, at, slot),
         right: slot,
         weight: weight_at(card, form, at),
+    }
+}
+
+// The slot counts in the head of a card's table.
+pub fn slot_counts(head: CardHead) -> SlotCounts
+    ensures { λ r. ⌜ slotsIs r ≡ slotsSaid (headIs head) ⌝ }
+{
+    let form = head.form;
+    match form {
+        Form::Plain => SlotCounts::Both(head.slots),
+        Form::Scored => SlotCounts::Both(head.slots),
+        Form::Shared => SlotCounts::Each(head.left, head.slots),
     }
 }

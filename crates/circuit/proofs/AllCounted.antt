@@ -11,14 +11,14 @@ use native.Mathlib.Decide.{ℕ-discrete}
 use lib.ListN.{length}
 use Rattle.field.specs.Member.{member}
 use Rattle.circuit.specs.Count.{samePair, repeated, distinct, counted}
-use Rattle.circuit.specs.Every.{Every}
+use Rattle.circuit.specs.Every.{Every, Some}
 use Rattle.circuit.specs.Gate.{Gate}
 use Rattle.circuit.specs.Operands.{operands, Reads}
 use Rattle.circuit.specs.Table.{Head, allFit}
 use Rattle.circuit.specs.Used.{Used, isOutput, isRead, pick, usedNumbers, used}
 use Rattle.circuit.proofs.Fitting.{AllNamed, all-named}
 use Rattle.circuit.proofs.Operands.{read-before}
-use Rattle.circuit.proofs.Some.{Some, some-member}
+use Rattle.circuit.proofs.Some.{some-member}
 use Rattle.circuit.proofs.Unrepeated.{Unrepeated}
 use Rattle.circuit.proofs.Used.{needed-is-used}
 

@@ -1,8 +1,8 @@
 -- Every byte of a well-formed table is below 256: kinds, slots, weights and primes are, and each half of a u16.
 -- Assumes nothing.
 use mathlib.Core.Path.{_≡_, refl}
-use mathlib.Core.Bool.{true}
-use mathlib.Core.List.{List, [], _∷_}
+use mathlib.Core.Bool.{true, false}
+use mathlib.Core.List.{List, [], _∷_, _++_}
 use Prim.Native.Nat.{ℕ, suc, _+_, _/_, _%_, _≤_, _<_}
 use native.Mathlib.Omega.{arith}
 use borrow.Author.Tests.{ltb-true, lt-ltb}
@@ -10,15 +10,16 @@ use lib.Dec.{ltb}
 use lib.ListN.{length}
 use Rattle.field.proofs.Primes.{listed-is-odd-prime}
 use Rattle.field.proofs.Tests.{both, in-range}
-use Rattle.digits.specs.Number.{mostDigits, allBelow}
+use Rattle.digits.specs.Number.{allBelow}
 use Rattle.digits.proofs.Number.{below-append}
+use Rattle.circuit.specs.Bytes.{marked, u16}
 use Rattle.circuit.specs.Constant.{isConstant}
 use Rattle.circuit.specs.Gate.{Gate, Left, Right, Add, Sub, Scale, Flip, Mul, fields, gateBytes}
 use Rattle.circuit.specs.Promises.{TableBytes}
-use Rattle.circuit.specs.Table.{Head, leftSlots, rightSlots, headBytes, gatesBytes, leastWeight, mostWeight, mostGates, fits, allFit}
+use Rattle.circuit.specs.Table.{SlotCounts, Both, Each, wrongSlots, headMarkOf, slotBytes, Head, leftSlots, rightSlots, headBytes, gatesBytes, leastWeight, mostWeight, mostGates, fits, allFit}
 use Rattle.circuit.proofs.Constant.{twos-complement}
 use Rattle.circuit.proofs.Fitting.{two-below, fit-cons}
-use Rattle.circuit.proofs.WellFormed.{well-formed}
+use Rattle.circuit.proofs.WellFormed.{SlotRange, slot-range, well-formed}
 
 -- the fields of a gate are a byte and two u16
 abbrev Small : Gate → Type 0
@@ -60,12 +61,24 @@ gates-below head k (g ∷ gs) w t =
     below-append 256 (gateBytes g) (gatesBytes gs) (gate-below g here)
     (gates-below head (suc k) gs (w .0, w .1, w .2, omega (arith, w .3)) (s .1))
 
-head-below : (head : Head) (count : ℕ) → head .prime < 256 → head .weight < 256 → head .slots < 256 → count < 65536
+head-below : (head : Head) (count : ℕ) → head .prime < 256 → head .weight < 256 → wrongSlots (head .slots) ≡ false → count < 65536
     → allBelow 256 (headBytes head count) ≡ true
 unfolding allBelow
-head-below head count p w n l =
-    let g = u16-below count l in
-    rw (lt-ltb (head .prime) 256 p, lt-ltb (head .weight) 256 w, lt-ltb (head .slots) 256 n, g .0, g .1)
+head-below head count p w t l = go (head .slots) (slot-range (head .slots) t)
+  where
+    prime : ltb (head .prime) 256 ≡ true
+    prime = lt-ltb (head .prime) 256 p
+
+    weight : ltb (head .weight) 256 ≡ true
+    weight = lt-ltb (head .weight) 256 w
+
+    go : (slots : SlotCounts) → SlotRange slots
+        → allBelow 256 (marked (headMarkOf slots) (head .prime ∷ head .weight ∷ (slotBytes slots ++ u16 count []))) ≡ true
+    go (Both n) range =
+        let g = u16-below count l in rw (prime, weight, lt-ltb n 256 (omega arith), g .0, g .1)
+    go (Each left right) range =
+        let g = u16-below count l in
+        rw (prime, weight, lt-ltb left 256 (omega arith), lt-ltb right 256 (omega arith), g .0, g .1)
 
 pub table-bytes : TableBytes
 table-bytes table t =
@@ -73,8 +86,8 @@ table-bytes table t =
     let head = table .head in
     let prime : head .prime ≤ 251 = listed-is-odd-prime (head .prime) .0 (w .prime) .high in
     let weight = in-range (head .weight) leastWeight mostWeight (w .weight) in
-    let slots = in-range (head .slots) 1 mostDigits (w .slots) in
+    let slots = slot-range (head .slots) (w .slots) in
     let count = in-range (length (table .gates)) 1 mostGates (w .count) in
     below-append 256 (headBytes head (length (table .gates))) (gatesBytes (table .gates))
-    (head-below head (length (table .gates)) (omega arith) (omega arith) (omega arith) (omega arith))
+    (head-below head (length (table .gates)) (omega arith) (omega arith) (w .slots) (omega arith))
     (gates-below head 0 (table .gates) (omega arith) (w .fitted))

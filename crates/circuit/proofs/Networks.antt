@@ -11,12 +11,13 @@ use native.Mathlib.Omega.{arith}
 use native.Mathlib.Decide.{decLt, ℕ-discrete}
 use lib.ListN.{length, length-append}
 use Rattle.circuit.specs.Count.{counted}
+use Rattle.circuit.specs.Every.{Some}
 use Rattle.circuit.specs.Gate.{Gate}
 use Rattle.circuit.specs.Segment.{Node}
 use Rattle.circuit.specs.Table.{Head, allFit}
 use Rattle.circuit.proofs.AllCounted.{Read, all-counted}
 use Rattle.circuit.proofs.Every.{every-append}
-use Rattle.circuit.proofs.Some.{Some, some-left, some-right, some-either}
+use Rattle.circuit.proofs.Some.{some-left, some-right, some-either}
 use Rattle.circuit.proofs.Unrepeated.{EachFactor, NoMul, Unrepeated, factors-map, none-has, unrepeated-append, none-unrepeated}
 
 -- number x is the gate of one of the nodes

@@ -2,28 +2,28 @@
 -- A record's eight bytes and its gate determine each other; the gates follow by induction on the records, the head by its rules one at a time.
 -- Assumes nothing.
 use mathlib.Core.Path.{_≡_, refl, sym, ap, ap₂, _∙_}
-use mathlib.Core.Bool.{true, false, not, _&&_}
-use mathlib.Core.List.{List, [], _∷_, _++_}
+use mathlib.Core.Bool.{Bool, true, false, not, _&&_, and-true}
+use mathlib.Core.List.{List, [], _∷_, _++_, append-assoc}
 use Prim.Native.Nat.{ℕ, zero, suc, _+_, _*_, _/_, _%_, _≤_}
 use native.Mathlib.Omega.{arith}
-use native.Mathlib.Nat.{zero-add}
+use native.Mathlib.Nat.{le-refl, zero-add}
 use borrow.Author.Tests.{eq-eqb, le-ltb, eqb-true, ltb-false, not-false}
 use lib.Dec.{ltb, eqb}
 use lib.ListN.{length, drop, length-append, length-drop}
-use lib.Seq.{drop-cons, drop-drop}
+use lib.Seq.{drop-at, drop-cons, drop-drop}
 use Rattle.answer.specs.Outcome.{Answer, refused, accepted, onAnswer}
 use Rattle.answer.proofs.Outcome.{passed, answered, accepted-same, Places, numbered-is}
 use Rattle.field.specs.Primes.{listed}
 use Rattle.field.proofs.Primes.{listed-is-odd-prime}
 use Rattle.field.proofs.Tests.{both, neither}
-use Rattle.digits.specs.Number.{wrongCount, allBelow}
+use Rattle.digits.specs.Number.{allBelow}
 use Rattle.digits.proofs.Number.{below-at, below-drop}
-use Rattle.circuit.specs.Bytes.{Mark, byte, marked, wrongMark, u16At}
+use Rattle.circuit.specs.Bytes.{Mark, byte, marked, wrongMark, u16, u16At}
 use Rattle.circuit.specs.Constant.{isConstant, sixteenBits}
 use Rattle.circuit.specs.Gate.{Gate, Left, Right, Add, Sub, Scale, Flip, Mul, fields, kinds, gateOf, gateMark, gateBytes}
 use Rattle.circuit.specs.Promises.{TableLength}
-use Rattle.circuit.specs.Reading.{fitting, readFields, readGate, readGates, headOf, countOf, readHead, readTable, reading}
-use Rattle.circuit.specs.Table.{Head, Table, headMark, gatesBytes, tableBytes, wrongWeight, wrongGateCount, fits, allFit}
+use Rattle.circuit.specs.Reading.{fitting, readFields, readGate, readGates, slotsBy, slotsAt, headOf, countOf, readHead, readTable, reading}
+use Rattle.circuit.specs.Table.{SlotCounts, Both, Each, bothMark, eachMark, headMarkOf, slotBytes, wrongSlots, wrongSpare, Head, Table, headBytes, gatesBytes, tableBytes, wrongWeight, wrongGateCount, fits, allFit}
 use Rattle.circuit.proofs.Constant.{twos-complement}
 use Rattle.circuit.proofs.Fitting.{fit-cons}
 use Rattle.circuit.proofs.WellFormed.{WellFormed}
@@ -64,19 +64,68 @@ unfolding gatesBytes
 length-gates [] = refl
 length-gates (g ∷ gs) = omega (arith, length-gates gs)
 
+module _ (head : Head) (count : ℕ) where
+  -- the bytes of a head by its slot counts, of which there are two sorts
+  abbrev bytesBy : SlotCounts → List ℕ
+  bytesBy slots = marked (headMarkOf slots) (head .prime ∷ head .weight ∷ (slotBytes slots ++ u16 count []))
+
+  pub head-length : length (headBytes head count) ≡ 8
+  head-length = go (head .slots)
+    where
+      go : (slots : SlotCounts) → length (bytesBy slots) ≡ 8
+      go (Both n) = refl
+      go (Each l r) = refl
+
+  -- a head's count, and the head itself, are read from its bytes
+  count-back : (later : List ℕ) → countOf (headBytes head count ++ later) ≡ count
+  count-back later = go (head .slots)
+    where
+      go : (slots : SlotCounts) → countOf (bytesBy slots ++ later) ≡ count
+      go (Both n) = whole count
+      go (Each l r) = whole count
+
+  head-back : (later : List ℕ) → listed (head .prime) ≡ true → wrongWeight (head .weight) ≡ false → wrongSlots (head .slots) ≡ false
+      → wrongGateCount count ≡ false → 8 * count ≤ length later → readHead (headBytes head count ++ later) ≡ accepted head
+  head-back later prime weight slots gates room = go (head .slots) slots
+    where
+      -- the head's eight bytes are there, and those of its gates
+      long : (slots : SlotCounts) (n : ℕ) → n ≤ 8 * (count + 1) → ltb (length (bytesBy slots ++ later)) n ≡ false
+      long (Both m) n l = le-ltb (length (bytesBy (Both m) ++ later)) n (omega arith)
+      long (Each a b) n l = le-ltb (length (bytesBy (Each a b) ++ later)) n (omega arith)
+
+      least : 8 ≤ 8 * (count + 1)
+      least = omega arith
+
+      go : (slots : SlotCounts) → wrongSlots slots ≡ false
+          → readHead (bytesBy slots ++ later) ≡ accepted (record { prime = head .prime; weight = head .weight; slots = slots })
+      go (Both n) t = rw (long (Both n) 8 least, prime, weight, t, whole count, gates, long (Both n) _ (le-refl _))
+      go (Each l r) t = rw (long (Each l r) 8 least, prime, weight, t, whole count, gates, long (Each l r) _ (le-refl _))
+
 pub table-length : TableLength
-table-length table = omega (arith, length-gates (table .gates))
+table-length table =
+    let head = headBytes (table .head) (length (table .gates)) in
+    omega (arith, length-append head (gatesBytes (table .gates)), head-length (table .head) (length (table .gates)), length-gates (table .gates))
+
+-- the gates of a table stand after its head
+pub after-head : (table : Table) (later : List ℕ) → drop 8 (tableBytes table ++ later) ≡ gatesBytes (table .gates) ++ later
+after-head table later =
+    let head = headBytes (table .head) (length (table .gates)) in
+    ap (drop 8) (append-assoc head (gatesBytes (table .gates)) later)
+    ∙ drop-at head (gatesBytes (table .gates) ++ later) 8 (head-length (table .head) (length (table .gates)))
 
 pub read-table : (table : Table) (later : List ℕ) → WellFormed table → reading (tableBytes table ++ later) ≡ accepted table
 read-table table later w =
     let count : ℕ = length (table .gates) in
-    let size : length (tableBytes table ++ later) ≡ 8 * (count + 1) + length later
-    = length-append (tableBytes table) later ∙ ap (λ (n : ℕ). n + length later) (table-length table) in
-    let least = le-ltb (length (tableBytes table ++ later)) 8 (omega arith) in
-    let room = le-ltb (length (tableBytes table ++ later)) (8 * (count + 1)) (omega arith) in
+    let head = headBytes (table .head) count in
+    let rest = gatesBytes (table .gates) ++ later in
+    let size = length-append (gatesBytes (table .gates)) later in
+    let room : 8 * count ≤ length rest = omega (arith, size, length-gates (table .gates)) in
     let prime = listed-is-odd-prime (table .head .prime) .0 (w .prime) .high in
     let gates = read-gates (table .head) 0 (table .gates) later (omega arith) (w .fitted) in
-    rw (least, w .prime, w .weight, w .slots, whole count, w .count, room) (rw (whole count, gates))
+    ap reading (append-assoc head (gatesBytes (table .gates)) later)
+    ∙ ap (λ (r : Answer Head). onAnswer r refused (readTable (head ++ rest)))
+    (head-back (table .head) count rest (w .prime) (w .weight) (w .slots) (w .count) room)
+    ∙ rw (count-back (table .head) count rest, drop-at head rest 8 (head-length (table .head) count), gates)
 
 -- ---- from bytes to gates
 
@@ -201,31 +250,52 @@ gates-bytes head k (suc count) bytes gs l h e =
 
 -- every rule that an accepted head has passed
 pub record Heads (bytes : List ℕ) : Type 0 where
-  pub mark : (byte bytes 0 ≡ headMark .opening) × (byte bytes 1 ≡ headMark .closing)
+  pub mark : (byte bytes 0 ≡ headMarkOf (slotsAt bytes) .opening) × (byte bytes 1 ≡ headMarkOf (slotsAt bytes) .closing)
   pub prime : listed (headOf bytes .prime) ≡ true
   pub weight : wrongWeight (headOf bytes .weight) ≡ false
-  pub slots : wrongCount (headOf bytes .slots) ≡ false
-  pub spare : byte bytes 5 ≡ 0
+  pub slots : wrongSlots (slotsAt bytes) ≡ false
+  pub places : slotBytes (slotsAt bytes) ≡ byte bytes 4 ∷ byte bytes 5 ∷ []
   pub count : wrongGateCount (countOf bytes) ≡ false
   pub room : 8 * (countOf bytes + 1) ≤ length bytes
+
+-- the mark is that of the slot counts, which are told by it
+slots-mark : (bytes : List ℕ) → (wrongMark bothMark bytes && wrongMark eachMark bytes) ≡ false
+    → (byte bytes 0 ≡ headMarkOf (slotsAt bytes) .opening) × (byte bytes 1 ≡ headMarkOf (slotsAt bytes) .closing)
+slots-mark bytes t = go (wrongMark eachMark bytes) refl t
+  where
+    go : (other : Bool) → wrongMark eachMark bytes ≡ other → (wrongMark bothMark bytes && other) ≡ false
+        → let mark = headMarkOf (slotsBy other (byte bytes 4) (byte bytes 5)) in
+        (byte bytes 0 ≡ mark .opening) × (byte bytes 1 ≡ mark .closing)
+    go true e t = mark-is bothMark bytes (rw and-true at t)
+    go false e t = mark-is eachMark bytes e
+
+-- and bytes 4 and 5 are theirs
+slots-bytes : (bytes : List ℕ) → wrongSpare (slotsAt bytes) (byte bytes 5) ≡ false → slotBytes (slotsAt bytes) ≡ byte bytes 4 ∷ byte bytes 5 ∷ []
+slots-bytes bytes t = go (wrongMark eachMark bytes) t
+  where
+    go : (other : Bool)
+        → let slots = slotsBy other (byte bytes 4) (byte bytes 5) in
+        wrongSpare slots (byte bytes 5) ≡ false → slotBytes slots ≡ byte bytes 4 ∷ byte bytes 5 ∷ []
+    go true t = ap (λ (spare : ℕ). byte bytes 4 ∷ spare ∷ []) (sym (eqb-true _ _ (not-false _ t)))
+    go false t = refl
 
 pub heads : (bytes : List ℕ) (head : Head) → readHead bytes ≡ accepted head → Heads bytes × (headOf bytes ≡ head)
 heads bytes head e =
     let answer : Answer Head → Answer Head = λ r. r in
     let least = passed answer (ltb (length bytes) 8) (refused 12) _ refl e in
-    let mark = passed answer (wrongMark headMark bytes) (refused 2) _ refl (least .1) in
+    let mark = passed answer (wrongMark bothMark bytes && wrongMark eachMark bytes) (refused 2) _ refl (least .1) in
     let prime = passed answer (not (listed (headOf bytes .prime))) (refused 3) _ refl (mark .1) in
     let weight = passed answer (wrongWeight (headOf bytes .weight)) (refused 4) _ refl (prime .1) in
-    let slots = passed answer (wrongCount (headOf bytes .slots)) (refused 13) _ refl (weight .1) in
-    let spare = passed answer (not (eqb (byte bytes 5) 0)) (refused 5) _ refl (slots .1) in
+    let slots = passed answer (wrongSlots (headOf bytes .slots)) (refused 13) _ refl (weight .1) in
+    let spare = passed answer (wrongSpare (headOf bytes .slots) (byte bytes 5)) (refused 5) _ refl (slots .1) in
     let count = passed answer (wrongGateCount (countOf bytes)) (refused 14) _ refl (spare .1) in
     let room = passed answer (ltb (length bytes) (8 * (countOf bytes + 1))) (refused 15) _ refl (count .1) in
     let kept : Heads bytes = record {
-      mark = mark-is headMark bytes (mark .0);
+      mark = slots-mark bytes (mark .0);
       prime = not-false (listed (headOf bytes .prime)) (prime .0);
       weight = weight .0;
       slots = slots .0;
-      spare = eqb-true _ _ (not-false _ (spare .0));
+      places = slots-bytes bytes (spare .0);
       count = count .0;
       room = ltb-false _ _ (room .0);
     } in
@@ -261,12 +331,24 @@ reads bytes table e =
       };
     })
 
+-- the first eight bytes are those of a head
+head-bytes : (bytes : List ℕ) (slots : SlotCounts) (count : ℕ) → 8 ≤ length bytes
+    → (byte bytes 0 ≡ headMarkOf slots .opening) × (byte bytes 1 ≡ headMarkOf slots .closing)
+    → slotBytes slots ≡ byte bytes 4 ∷ byte bytes 5 ∷ [] → (count % 256 ≡ byte bytes 6) × (count / 256 ≡ byte bytes 7)
+    → bytes ≡ headBytes (record { prime = byte bytes 2; weight = byte bytes 3; slots = slots }) count ++ drop 8 bytes
+head-bytes bytes slots count l mark places gates =
+    eight bytes l ∙ rw (mark .0, mark .1, places, gates .0, gates .1)
+
 pub bytes-read : (bytes : List ℕ) (table : Table) → allBelow 256 bytes ≡ true → Reads bytes table
     → bytes ≡ tableBytes table ++ drop (8 * (length (table .gates) + 1)) bytes
 bytes-read bytes table h r =
-    let count = u16-bytes bytes 6 (length (table .gates)) h (r .count) in
-    let size : 8 * (length (table .gates) + 1) ≡ 8 + 8 * countOf bytes = omega (arith, r .count) in
+    let count = length (table .gates) in
+    let last = drop (8 * (count + 1)) bytes in
+    let size : 8 * (count + 1) ≡ 8 + 8 * countOf bytes = omega (arith, r .count) in
     let room : 8 * countOf bytes ≤ length (drop 8 bytes) = rw length-drop (omega (arith, r .kept .room)) in
-    let gates = gates-bytes (headOf bytes) 0 (countOf bytes) (drop 8 bytes) (table .gates) room (below-drop 256 bytes 8 h) (r .gates) in
-    eight bytes (omega (arith, r .kept .room))
-    ∙ rw (size, ← drop-drop (8 * countOf bytes) 8 bytes, r .head, r .kept .mark .0, r .kept .mark .1, r .kept .spare, count .0, count .1, ← gates)
+    let gates : drop 8 bytes ≡ gatesBytes (table .gates) ++ last
+    = gates-bytes (headOf bytes) 0 (countOf bytes) (drop 8 bytes) (table .gates) room (below-drop 256 bytes 8 h) (r .gates)
+    ∙ rw (size, drop-drop (8 * countOf bytes) 8 bytes) in
+    head-bytes bytes (slotsAt bytes) count (omega (arith, r .kept .room)) (r .kept .mark) (r .kept .places) (u16-bytes bytes 6 count h (r .count))
+    ∙ ap₂ (λ (head : Head) (l : List ℕ). headBytes head count ++ l) (sym (r .head)) gates
+    ∙ sym (append-assoc (headBytes (table .head) count) (gatesBytes (table .gates)) last)

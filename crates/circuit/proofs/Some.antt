@@ -8,11 +8,7 @@ use Prim.Native.Nat.{ℕ}
 use borrow.Author.Tests.{eq-eqb}
 use lib.Dec.{eqb}
 use Rattle.field.specs.Member.{member}
-use Rattle.circuit.specs.Every.{Every}
-
-abbrev pub Some : {X : Type 0} → (X → Type 0) → List X → Type 0
-Some P [] = ⊥
-Some P (x ∷ xs) = P x ⊎ Some P xs
+use Rattle.circuit.specs.Every.{Every, Some}
 
 module _ {X : Type 0} where
   pub some-map : {P Q : X → Type 0} → ((x : X) → P x → Q x) → (xs : List X) → Some P xs → Some Q xs

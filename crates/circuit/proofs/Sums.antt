@@ -5,8 +5,10 @@
 use mathlib.Core.Path.{_≡_, refl, sym, ap, _∙_}
 use mathlib.Core.Bool.{Bool, true, false}
 use mathlib.Core.List.{List, [], _∷_, map, map-map}
+use mathlib.Core.Logic.{inl, inr}
 use Prim.Native.Nat.{ℕ, suc, _+_, _*_, _%_, _≤_, _<_, max, zero-le}
 use native.Mathlib.Omega.{arith}
+use native.Mathlib.Decide.{decLt}
 use native.Mathlib.Nat.{mod-mod, add-assoc}
 use lib.ListN.{length, length-map}
 use Rattle.field.specs.Logarithm.{clog}
@@ -15,7 +17,7 @@ use Rattle.field.proofs.Logarithm.{clog-max, clog-small}
 use Rattle.field.proofs.Modular.{mod-same, add-cong, addMod-is, residue-below}
 use Rattle.circuit.specs.Count.{count, isProduct, isSquare}
 use Rattle.circuit.specs.Depth.{depths}
-use Rattle.circuit.specs.Every.{Every}
+use Rattle.circuit.specs.Every.{Every, Some}
 use Rattle.circuit.specs.Gate.{Gate, Add}
 use Rattle.circuit.specs.Meaning.{meaning, Solves}
 use Rattle.circuit.specs.SumPromises.{SumValue, SumBelow, SumDepth, SumCount, SumFits}
@@ -24,6 +26,7 @@ use Rattle.circuit.specs.Table.{Head, fits, allFit}
 use Rattle.circuit.specs.Value.{values}
 use Rattle.circuit.proofs.Every.{every-map}
 use Rattle.circuit.proofs.Fitting.{one-fits, fits-later}
+use Rattle.circuit.proofs.Some.{some-map}
 
 -- ---- values
 
@@ -94,6 +97,20 @@ unfolding largest
 largest-within F D [] h = zero-le
 largest-within F D (x ∷ xs) h = omega (arith, h .0, largest-within F D xs (h .1))
 
+-- and of some entries one is the largest
+pub largest-reached : {X : Type 0} (F : X → ℕ) (xs : List X) → 1 ≤ length xs → Some (λ x. F x ≡ largest (map F xs)) xs
+unfolding largest
+largest-reached F [] some = absurd (omega arith)
+largest-reached F (x ∷ []) some = inl (omega arith)
+largest-reached F (x ∷ y ∷ xs) some = go (decLt (F x) (largest (map F (y ∷ xs)))) (largest-reached F (y ∷ xs) (omega arith))
+  where
+    most : ℕ
+    most = largest (map F (y ∷ xs))
+
+    go : Dec (F x < most) → Some (λ z. F z ≡ most) (y ∷ xs) → Some (λ z. F z ≡ max (F x) most) (x ∷ y ∷ xs)
+    go (yes l) later = let same : most ≡ max (F x) most = omega arith in inr (some-map (λ z e. e ∙ same) (y ∷ xs) later)
+    go (no n) later = inl (omega arith)
+
 -- of entries that are all so much larger, so much larger
 pub largest-plus : {X : Type 0} (D : ℕ) (F : X → ℕ) (xs : List X) → 1 ≤ length xs
     → largest (map (λ x. D + F x) xs) ≡ D + largest (map F xs)
@@ -150,8 +167,8 @@ sum-fits head k (g ∷ gs) h =
 -- ---- terms that are made of other things
 
 module _ {X : Type 0} (term : X → Gate) where
-  some-map : (xs : List X) → 1 ≤ length xs → 1 ≤ length (map term xs)
-  some-map xs some = omega (arith, length-map xs term)
+  terms-some : (xs : List X) → 1 ≤ length xs → 1 ≤ length (map term xs)
+  terms-some xs some = omega (arith, length-map xs term)
 
   place-map : (k : ℕ) (xs : List X) → sumGate k (length xs) ≡ sumGate k (length (map term xs))
   place-map k xs = ap (sumGate k) (sym (length-map xs term))
@@ -161,13 +178,13 @@ module _ {X : Type 0} (term : X → Gate) where
         → E (sumGate k (length xs)) % p ≡ total (map (λ x. meaning (values p left right) E (term x)) xs) % p
     sum-value-map h =
         mod-same p (ap E (place-map k xs))
-        ∙ sum-value p left right E k (map term xs) positive (some-map xs some) h
+        ∙ sum-value p left right E k (map term xs) positive (terms-some xs some) h
         ∙ mod-same p (ap total (map-map (meaning (values p left right) E) term xs))
 
     pub sum-below-map : Solves (values p left right) E k (sumFrom k (map term xs)) → E k < p → E (sumGate k (length xs)) < p
-    sum-below-map h l = rw (place-map k xs) (sum-below p left right E k (map term xs) positive (some-map xs some) h l)
+    sum-below-map h l = rw (place-map k xs) (sum-below p left right E k (map term xs) positive (terms-some xs some) h l)
 
   pub sum-depth-map : (E : ℕ → ℕ) (k : ℕ) (xs : List X) → 1 ≤ length xs → Solves depths E k (sumFrom k (map term xs))
       → E (sumGate k (length xs)) ≡ largest (map (λ x. meaning depths E (term x)) xs)
   sum-depth-map E k xs some h =
-      ap E (place-map k xs) ∙ sum-depth E k (map term xs) (some-map xs some) h ∙ ap largest (map-map (meaning depths E) term xs)
+      ap E (place-map k xs) ∙ sum-depth E k (map term xs) (terms-some xs some) h ∙ ap largest (map-map (meaning depths E) term xs)

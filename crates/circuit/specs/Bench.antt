@@ -8,20 +8,20 @@ use Rattle.circuit.specs.Constant.{plus, minus}
 use Rattle.circuit.specs.Gate.{Left, Right, Add, Sub, Scale, Flip, Mul}
 use Rattle.circuit.specs.Meaning.{output}
 use Rattle.circuit.specs.Outcomes.{checking, running}
-use Rattle.circuit.specs.Table.{Table, tableBytes}
+use Rattle.circuit.specs.Table.{Both, Table, tableBytes}
 use Rattle.circuit.specs.Value.{values}
 
 -- the listing of the first bench card: p=3, s=75, "<" of 1. "In document 01's whole listing line 5 becomes `5 SCALE 3 -1`." (document 02, E3)
 abbrev pub lessTable : Table
 lessTable = record {
-  head = record { prime = 3; weight = 75; slots = 1 };
+  head = record { prime = 3; weight = 75; slots = Both 1 };
   gates = Left 0 ∷ Right 0 ∷ Sub 0 1 ∷ Mul 2 2 ∷ Scale 2 (plus 1) ∷ Scale 3 (minus 1) ∷ Add 4 5 ∷ [];
 }
 
 -- "p=7, s=50, one "=" of 1": z^2, z^4, then z^6 as their product, and its FLIP
 abbrev pub equalTable : Table
 equalTable = record {
-  head = record { prime = 7; weight = 50; slots = 1 };
+  head = record { prime = 7; weight = 50; slots = Both 1 };
   gates = Left 0 ∷ Right 0 ∷ Sub 0 1 ∷ Mul 2 2 ∷ Mul 3 3 ∷ Mul 3 4 ∷ Flip 5 ∷ [];
 }
 

@@ -19,7 +19,7 @@ use Rattle.circuit.specs.Depth.{depths}
 use Rattle.circuit.specs.Gate.{Gate}
 use Rattle.circuit.specs.Meaning.{Algebra, entryAt, Solves}
 use Rattle.circuit.specs.Segment.{Segment, followedBy}
-use Rattle.circuit.specs.Table.{Head, leftSlots, rightSlots, allFit}
+use Rattle.circuit.specs.Table.{Each, Head, leftSlots, rightSlots, allFit}
 use Rattle.circuit.specs.Value.{values}
 use Rattle.circuit.proofs.Count.{count-append}
 use Rattle.circuit.proofs.Fitting.{all-fit, fit-append, all-named}
@@ -175,7 +175,7 @@ written-solved alg p t gates c law two some =
     let k = length gates in
     let order = isOrder (c .relation) in
     let written = conditionBy t p c k .gates in
-    let head : Head = record { prime = p; weight = 0; slots = c .left + c .right + c .digits } in
+    let head : Head = record { prime = p; weight = 0; slots = Each (c .left + c .digits) (c .right + c .digits) } in
     let named = all-named head k written (condition-fits head k t c law two (some, omega arith, omega arith)) in
     end-solved k (bodyOf p t law two c some k order) (body-last p t law two c some k order) alg _ (isFlipped (c .relation))
     (later-solved alg gates written named)

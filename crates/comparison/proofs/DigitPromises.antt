@@ -9,7 +9,7 @@ use lib.ListN.{length, length-append}
 use Rattle.circuit.specs.Depth.{depths}
 use Rattle.circuit.specs.Gate.{Gate}
 use Rattle.circuit.specs.Meaning.{Algebra, entryAt, Solves}
-use Rattle.circuit.specs.Table.{Head, allFit}
+use Rattle.circuit.specs.Table.{Each, Head, allFit}
 use Rattle.circuit.specs.Value.{values}
 use Rattle.circuit.proofs.Fitting.{all-named}
 use Rattle.circuit.proofs.Meaning.{later-solved}
@@ -31,7 +31,7 @@ module _ (p : ℕ) (gates : List Gate) (c : Condition) (j : ℕ) where
 
   -- any head with slots enough
   abbrev head : Head
-  head = record { prime = p; weight = 0; slots = suc (c .left + c .right + j) }
+  head = record { prime = p; weight = 0; slots = Each (suc (c .left + j)) (suc (c .right + j)) }
 
   -- gates that fit name only earlier ones, so their entries solve them
   solved : {A : Type 0} (alg : Algebra A) (digit : List Gate) → allFit head k digit ≡ true

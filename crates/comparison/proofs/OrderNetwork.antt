@@ -11,13 +11,14 @@ use native.Mathlib.Decide.{decLe, decLt, ℕ-discrete}
 use lib.ListN.{length, length-append, length-map}
 use Rattle.field.specs.Half.{half}
 use Rattle.field.specs.Polynomials.{everySecond, orderExponents}
+use Rattle.circuit.specs.Every.{Some}
 use Rattle.circuit.specs.Gate.{Gate}
 use Rattle.circuit.specs.Segment.{Node}
 use Rattle.circuit.proofs.AllCounted.{Read}
 use Rattle.circuit.proofs.Ends.{sum-read, sum-own, sum-none}
 use Rattle.circuit.proofs.Every.{every-append}
 use Rattle.circuit.proofs.Networks.{Among, Network, over-one}
-use Rattle.circuit.proofs.Some.{Some, some-map, some-made, some-left, some-right}
+use Rattle.circuit.proofs.Some.{some-map, some-made, some-left, some-right}
 use Rattle.circuit.proofs.Unrepeated.{EachPair, EachFactor, NoMul, Unrepeated, factors-map, none-has, first-apart, none-after}
 use Rattle.comparison.specs.Difference.{zGate}
 use Rattle.comparison.specs.Digits.{orderTests}

@@ -12,7 +12,7 @@ use Rattle.field.specs.Logarithm.{clog}
 use Rattle.comparison.specs.Condition.{Condition}
 use Rattle.comparison.specs.Formulas.{conditionProducts, conditionSquares}
 use Rattle.query.specs.Card.{Card}
-use Rattle.query.specs.Form.{Form, Plain, Scored}
+use Rattle.query.specs.Form.{Question, YesOrNo, Score, questionOf}
 use Rattle.query.specs.Formulas.{gateCount, levelsAbove, productCount, squareCount, numbersOf}
 use Rattle.query.specs.Outcomes.{forecasting}
 use Rattle.query.specs.Reading.{readCard}
@@ -29,10 +29,10 @@ use Rattle.circuit.proofs.Sums.{clog-largest}
 pub refused-too : (bytes : List ℕ) (number : ℕ) → refused number ≡ readSummary bytes → refused number ≡ forecasting bytes
 refused-too bytes number e = rw (was-refused number (readCard bytes) summary e)
 
--- the formulas' levels, by the form
-levels-are : (form : Form) (p : ℕ) (cs : List Condition) → levelsOf form (totalsOf p cs) ≡ levelsAbove form cs
-levels-are Plain p cs = refl
-levels-are Scored p cs = clog-largest (λ (c : Condition). c .digits) cs
+-- the formulas' levels, by what is asked
+levels-are : (q : Question) (p : ℕ) (cs : List Condition) → levelsOf q (totalsOf p cs) ≡ levelsAbove q cs
+levels-are YesOrNo p cs = refl
+levels-are Score p cs = clog-largest (λ (c : Condition). c .digits) cs
 
 -- the formulas' numbers: products and squares are paid apart
 numbers-are : (card : Card) → reportFrom (summary card) (totalsOf (card .prime) (card .conditions)) ≡ numbersOf card
@@ -40,7 +40,7 @@ numbers-are card =
     let p = card .prime in
     let s = card .weight in
     let parts = over-cost s (conditionProducts p) (conditionSquares p) (card .conditions) in
-    ap₂ told (omega (arith, parts)) (levels-are (card .form) p (card .conditions))
+    ap₂ told (omega (arith, parts)) (levels-are (questionOf (card .form)) p (card .conditions))
   where
     told : ℕ → ℕ → Report
     told cost levels = record {

@@ -12,7 +12,7 @@ use Rattle.comparison.specs.Condition.{Condition}
 use Rattle.comparison.specs.Formulas.{digitSize, joinedSize, digitProducts, joinedProducts, digitSquares, joinedSquares, endedSize, conditionSize, conditionProducts, conditionSquares}
 use Rattle.comparison.specs.Relation.{Relation, isOrder}
 use Rattle.query.specs.Card.{mostConditions, overConditions}
-use Rattle.query.specs.Form.{Form, Plain, Scored}
+use Rattle.query.specs.Form.{Question, YesOrNo, Score, questionOf}
 use Rattle.query.specs.Formulas.{endSize, endProducts}
 use Rattle.card.specs.Parts.{Summary}
 use Rattle.forecast.specs.declared.Counts.{Counts}
@@ -86,16 +86,16 @@ abbrev pub InRanges : Summary → Type 0
 InRanges said = (3 ≤ said .prime) × (said .prime ≤ 251) × (said .weight ≤ mostWeight) × (1 ≤ said .count) × (said .count ≤ mostConditions)
 
 -- "ceil(log2(the sum over the conditions of 2^ceil(log2 n)))"; of a score card "the largest ceil(log2 n)", that of the largest n
-abbrev pub levelsOf : Form → Totals → ℕ
-levelsOf Plain t = clog (t .breadth)
-levelsOf Scored t = clog (t .longest)
+abbrev pub levelsOf : Question → Totals → ℕ
+levelsOf YesOrNo t = clog (t .breadth)
+levelsOf Score t = clog (t .longest)
 
 -- the conditions' counts with those of the gates after them, the cost of the two counts, and the depth
 abbrev pub reportFrom : Summary → Totals → Report
 reportFrom said t = record {
-  gates = t .gates + endSize (said .form) (said .count);
-  products = t .products + endProducts (said .form) (said .count);
+  gates = t .gates + endSize (questionOf (said .form)) (said .count);
+  products = t .products + endProducts (questionOf (said .form)) (said .count);
   squares = t .squares;
-  cost = costOf (said .weight) (t .products + endProducts (said .form) (said .count)) (t .squares);
-  depth = clog (said .prime - 1) + levelsOf (said .form) t;
+  cost = costOf (said .weight) (t .products + endProducts (questionOf (said .form)) (said .count)) (t .squares);
+  depth = clog (said .prime - 1) + levelsOf (questionOf (said .form)) t;
 }

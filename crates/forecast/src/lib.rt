@@ -4,7 +4,7 @@ use answer::Report;
 use answer::Reported;
 use card::CardHead;
 use card::CardRead;
-use card::Form;
+use card::Question;
 use relations::Relation;
 ghost use mathlib.Core.Path.{_≡_};
 ghost use mathlib.Core.Bool.{true, false};
@@ -21,7 +21,7 @@ ghost use Rattle.query.specs.Outcomes.{forecasting};
 ghost use Rattle.forecast.specs.Counting.{mostInDigit, mostBeforeFlip, mostInCondition, Within, digitCounts, joinedCounts, endedCounts, conditionCounts, totalsOf, TotalsWithin, InRanges, levelsOf, reportFrom};
 ghost use Rattle.relations.specs.Relations.{relationIs};
 ghost use Rattle.card.specs.Conditions.{ReadAs, conditionsOf};
-ghost use Rattle.card.specs.Parts.{formIs, headIs};
+ghost use Rattle.card.specs.Parts.{questionIs, headIs};
 
 // How many gates, products and squares there are in a digit or a condition.
 struct Counts {
@@ -184,54 +184,55 @@ fn count_conditions(card: &[u8], head: CardHead) -> Totals
 }
 
 // How many gates come after those of the conditions: the product tree's, or a SCALE for each condition and an ADD for each but the first.
-fn end_gates(form: Form, count: u8) -> u32
+fn end_gates(question: Question, count: u8) -> u32
     requires { ⌜ 1 ≤ count ⌝ }
-    ensures { λ r. ⌜ (r ≡ endSize (formIs form) count) × (r ≤ 2 * count) ⌝ }
+    ensures { λ r. ⌜ (r ≡ endSize (questionIs question) count) × (r ≤ 2 * count) ⌝ }
 {
     let conditions = count as u32;
-    match form {
-        Form::Plain => conditions - 1,
-        Form::Scored => 2 * conditions - 1,
+    match question {
+        Question::YesOrNo => conditions - 1,
+        Question::Score => 2 * conditions - 1,
     }
 }
 
 // How many of these are products: all of the product tree's, and none of a score's.
-fn end_products(form: Form, count: u8) -> u32
+fn end_products(question: Question, count: u8) -> u32
     requires { ⌜ 1 ≤ count ⌝ }
-    ensures { λ r. ⌜ (r ≡ endProducts (formIs form) count) × (r ≤ count) ⌝ }
+    ensures { λ r. ⌜ (r ≡ endProducts (questionIs question) count) × (r ≤ count) ⌝ }
 {
-    match form {
-        Form::Plain => (count - 1) as u32,
-        Form::Scored => 0,
+    match question {
+        Question::YesOrNo => (count - 1) as u32,
+        Question::Score => 0,
     }
 }
 
 // The levels above those of a digit: of the joinings and the product tree, or of the deepest joining alone, to which a score adds none.
-fn levels_of(form: Form, totals: Totals) -> u16
+fn levels_of(question: Question, totals: Totals) -> u16
     requires { ⌜ TotalsWithin mostConditions totals ⌝ }
-    ensures { λ r. ⌜ (r ≡ levelsOf (formIs form) totals) × (r ≤ 16) ⌝ }
+    ensures { λ r. ⌜ (r ≡ levelsOf (questionIs question) totals) × (r ≤ 16) ⌝ }
 {
-    match form {
-        Form::Plain => arithmetic::ceil_log2(totals.breadth as u16),
-        Form::Scored => arithmetic::ceil_log2(totals.longest as u16),
+    match question {
+        Question::YesOrNo => arithmetic::ceil_log2(totals.breadth as u16),
+        Question::Score => arithmetic::ceil_log2(totals.longest as u16),
     }
 }
 
-// The five numbers: those of the conditions, with the gates after them, which the form tells.
+// The five numbers: those of the conditions, with the gates after them, which go by what the card asks.
 fn report_on(head: CardHead, totals: Totals) -> Report
     requires { ⌜ InRanges (headIs head) × TotalsWithin mostConditions totals ⌝ }
     ensures { λ r. ⌜ reportAnswer (Success r) ≡ accepted (reportFrom (headIs head) totals) ⌝ }
 {
     let form = head.form;
-    let gates = totals.gates + end_gates(form, head.count);
-    let products = totals.products + end_products(form, head.count);
+    let question = card::question_of(form);
+    let gates = totals.gates + end_gates(question, head.count);
+    let products = totals.products + end_products(question, head.count);
     let levels = arithmetic::ceil_log2((head.prime - 1) as u16);
     Report {
         gates: gates as u16,
         products: products as u16,
         squares: totals.squares as u16,
         cost: answer::cost_of(products, totals.squares, head.weight),
-        depth: Depth(levels + levels_of(form, totals)),
+        depth: Depth(levels + levels_of(question, totals)),
     }
 }
 

@@ -40,11 +40,11 @@ module _ (head : Head) (earlier : List ℕ) (a b : ℕ) where
   abbrev ofKind : ℕ → Answer ℕ
   ofKind kind = depthRead earlier (readFields head (length earlier) kind a b)
 
-  pub left-depth : depthIf (ltb a (leftSlots head) && eqb b 0) 0 ≡ ofKind 1
-  left-depth = tested (ltb a (leftSlots head) && eqb b 0) earlier (Left a)
+  pub left-depth : (slots : ℕ) → slots ≡ leftSlots head → depthIf (ltb a slots && eqb b 0) 0 ≡ ofKind 1
+  left-depth slots e = rw e (tested (ltb a (leftSlots head) && eqb b 0) earlier (Left a))
 
-  pub right-depth : depthIf (ltb a (rightSlots head) && eqb b 0) 0 ≡ ofKind 2
-  right-depth = tested (ltb a (rightSlots head) && eqb b 0) earlier (Right a)
+  pub right-depth : (slots : ℕ) → slots ≡ rightSlots head → depthIf (ltb a slots && eqb b 0) 0 ≡ ofKind 2
+  right-depth slots e = rw e (tested (ltb a (rightSlots head) && eqb b 0) earlier (Right a))
 
   pub add-depth : depthIf (isEarlier earlier a && isEarlier earlier b) (deeperOf earlier a b) ≡ ofKind 3
   add-depth = tested-both (isEarlier earlier a && isEarlier earlier b) b earlier (Add a b)

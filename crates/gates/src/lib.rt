@@ -107,9 +107,10 @@ fn gate_depth(kind: u8, a: usize, b: usize, head: TableHead, earlier: &[u16]) ->
     requires { ⌜ AreLow (now earlier) × (b < 0x10000) × (head .prime % 2 ≡ 1) ⌝ }
     ensures { λ r. ⌜ gateAnswer r ≡ depthRead (now (earlier .entry)) (readFields (headIs head) (length (now (earlier .entry))) kind a b) ⌝ }
 {
+    let slots = head.slots;
     match kind {
-        1 => slot_gate(a, b, arithmetic::wide(head.slots)),
-        2 => slot_gate(a, b, arithmetic::wide(head.slots)),
+        1 => slot_gate(a, b, records::left_slots(slots)),
+        2 => slot_gate(a, b, records::right_slots(slots)),
         3 => sum_gate(a, b, earlier),
         4 => sum_gate(a, b, earlier),
         5 => scale_gate(a, b, head.prime, earlier),

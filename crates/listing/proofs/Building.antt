@@ -12,7 +12,7 @@ use Rattle.answer.proofs.Outcome.{refused≢accepted, accepted-same}
 use Rattle.field.proofs.Primes.{listed-is-odd-prime}
 use Rattle.circuit.specs.Report.{report}
 use Rattle.circuit.specs.Table.{tableBytes, mostGates}
-use Rattle.circuit.proofs.Reading.{table-length}
+use Rattle.circuit.proofs.Reading.{table-length, after-head}
 use Rattle.circuit.proofs.WellFormed.{well-formed}
 use Rattle.query.specs.Card.{Card}
 use Rattle.query.specs.Outcomes.{tableRoom, building}
@@ -49,7 +49,8 @@ module _ (bytes lent : List ℕ) (room : 8 * (mostGates + 1) ≤ length lent) wh
           let size = length-append (tableBytes table) later in
           let formed = well-formed table (exact-size bytes card e .2) in
           let prime = listed-is-odd-prime (table .head .prime) .0 (formed .prime) .high in
-          let lines = lines-of (table .head) (omega arith) 0 (table .gates) later (formed .fitted) in
+          let lines = ap (recordLines 0 (length (table .gates))) (after-head table later)
+          ∙ lines-of (table .head) (omega arith) 0 (table .gates) later (formed .fitted) in
           rw (same, b) (
             omega (arith, size, table-length table),
             rw e (ap (λ (text : List ℕ). summaryLine (report table) ++ text) (sym lines)),

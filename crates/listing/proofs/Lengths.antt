@@ -15,11 +15,11 @@ use Rattle.circuit.specs.Constant.{Constant, plus, minus}
 use Rattle.circuit.specs.Gate.{Gate, Left, Right, Add, Sub, Scale, Flip, Mul, fields}
 use Rattle.circuit.specs.Promises.{Bounded}
 use Rattle.circuit.specs.Report.{report}
-use Rattle.circuit.specs.Table.{Head, Table, tableBytes, mostGates, allFit, wellFormed}
+use Rattle.circuit.specs.Table.{Head, leftSlots, rightSlots, Table, tableBytes, mostGates, allFit, wellFormed}
 use Rattle.circuit.proofs.Constant.{NearZero, near-zero}
 use Rattle.circuit.proofs.Fitting.{Fitted, fitted, fit-cons}
 use Rattle.circuit.proofs.Promises.{checks-tables, report-bounds}
-use Rattle.circuit.proofs.WellFormed.{well-formed}
+use Rattle.circuit.proofs.WellFormed.{slot-range, well-formed}
 use Rattle.query.specs.Card.{Card}
 use Rattle.query.specs.Reading.{readCard}
 use Rattle.query.specs.Whole.{tableOf}
@@ -65,7 +65,7 @@ constant-short p (minus n) prime h = simp length-append (omega (arith, decimal-s
 abbrev Small : Gate → Type 0
 Small g = (fields g .a < 10000) × (length (operandText g) ≤ 5)
 
-module _ (head : Head) (prime : head .prime ≤ 251) (slots : head .slots ≤ mostDigits) where
+module _ (head : Head) (prime : head .prime ≤ 251) (left : leftSlots head ≤ mostDigits) (right : rightSlots head ≤ mostDigits) where
   operands-small : (k : ℕ) (g : Gate) → k ≤ mostGates → Fitted head k g → Small g
   operands-small k (Left a) few h = (omega arith, number-short 0 (omega arith))
   operands-small k (Right a) few h = (omega arith, number-short 0 (omega arith))
@@ -98,10 +98,10 @@ table-short table t =
     let w = well-formed table t in
     let head = table .head in
     let prime : head .prime ≤ 251 = listed-is-odd-prime (head .prime) .0 (w .prime) .high in
-    let slots = in-range (head .slots) 1 mostDigits (w .slots) in
+    let slots = slot-range (head .slots) (w .slots) in
     let count = in-range (length (table .gates)) 1 mostGates (w .count) in
     let told = summary-short (report table) (report-bounds (tableBytes table ++ []) (report table) (checks-tables table [] t)) in
-    let lines = lines-short head prime (slots .1) 0 (table .gates) (omega arith) (w .fitted) in
+    let lines = lines-short head prime (slots .1) (slots .3) 0 (table .gates) (omega arith) (w .fitted) in
     omega (arith, length-append (summaryLine (report table)) (gateLines 0 (table .gates)), told, lines, count)
 
 -- ---- refusals

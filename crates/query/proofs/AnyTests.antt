@@ -34,12 +34,13 @@ use Rattle.comparison.specs.Condition.{Condition, holds}
 use Rattle.comparison.specs.Lawful.{Lawful}
 use Rattle.comparison.specs.Tests.{Tests}
 use Rattle.query.specs.Card.{Card, AsksYesOrNo, AsksScore}
+use Rattle.query.specs.Form.{Question, questionOf}
 use Rattle.query.specs.Holds.{allHold, truths, scoreOf}
 use Rattle.query.specs.AnyTests.{LawfulAnswer, LawfulScore, LawfulOutputs, LawfulFits, LawfulDepth}
 use Rattle.query.specs.Reading.{readCard}
-use Rattle.query.specs.Whole.{Draft, begin, endOf, filledBy, tableBy, tableOf}
+use Rattle.query.specs.Whole.{Draft, begin, endBy, endOf, filledBy, tableBy, tableOf}
 use Rattle.query.proofs.CardFacts.{Accepted, accepted-card}
-use Rattle.query.proofs.Ending.{tree-end, sum-end, end-fits, end-last, last-gate, end-solved, output-depths, end-depth}
+use Rattle.query.proofs.Ending.{end-fits, end-last, last-gate, end-solved, output-depths, end-depth}
 use Rattle.query.proofs.Score.{each-below, score-most, score-value}
 use Rattle.query.proofs.Whole.{Good, Sound, begin-sound, outputs-kept, all-outputs, all-sound, all-value}
 
@@ -91,23 +92,23 @@ module _ (bytes : List ℕ) (card : Card) (e : readCard bytes ≡ accepted card)
 
     -- the output is the last gate, and its node tells the depth
     pub output-last : suc (endOf card draft .output .gate) ≡ length gates
-    output-last = end-last head (card .conditions) draft sound outputs-length (known .count .0) (card .form)
+    output-last = end-last head (card .conditions) draft sound outputs-length (known .count .0) (questionOf (card .form))
 
     pub depth-told : endOf card draft .output .depth ≡ depth gates
-    depth-told = end-depth head (card .conditions) draft sound outputs-length (known .count .0) odd (card .form) (known .weights)
+    depth-told = end-depth head (card .conditions) draft sound outputs-length (known .count .0) odd (questionOf (card .form)) (known .weights)
 
     pub gates-fit : allFit head 0 gates ≡ true
     gates-fit =
         fit-append head 0 (draft .gates) (endOf card draft .gates) (sound .fitted)
         (rw (zero-add (length (draft .gates)))
-        (end-fits head (card .conditions) draft sound outputs-length (known .count .0) odd (card .form) (known .weights)))
+        (end-fits head (card .conditions) draft sound outputs-length (known .count .0) odd (questionOf (card .form)) (known .weights)))
 
     -- ---- the product tree
 
     -- the table of a card that asks for a yes or no
     module _ (asks : AsksYesOrNo card) where
       pub tree-ends : endOf card draft ≡ productTree (length (draft .gates)) (draft .outputs)
-      tree-ends = tree-end (card .form) p (card .conditions) (length (draft .gates)) (draft .outputs) asks
+      tree-ends = ap (λ (q : Question). endBy q p (card .conditions) (length (draft .gates)) (draft .outputs)) asks
 
       depth-is : depth gates ≡ clog (breadth (draft .outputs))
       depth-is =
@@ -119,7 +120,7 @@ module _ (bytes : List ℕ) (card : Card) (e : readCard bytes ≡ accepted card)
         (map-map _ (λ (f : Node). f .gate) (draft .outputs)
         ∙ map-same _ _ (draft .outputs)
         (every-map (λ (f : Node) told. ap (λ (d : ℕ). 2 ^ d) told) (draft .outputs)
-        (output-depths head (card .conditions) draft sound outputs-length (known .count .0) (card .form))))
+        (output-depths head (card .conditions) draft sound outputs-length (known .count .0) (questionOf (card .form)))))
 
     -- ---- values
 
@@ -151,7 +152,7 @@ module _ (bytes : List ℕ) (card : Card) (e : readCard bytes ≡ accepted card)
       -- a number below p that the output is modulo p is the output
       output-is : (x : ℕ) → x < p → entryAt alg gates (endOf card draft .output .gate) % p ≡ x % p → output alg gates ≡ x
       output-is x l e =
-          let last = last-gate head (card .conditions) draft sound outputs-length (known .count .0) (card .form) in
+          let last = last-gate head (card .conditions) draft sound outputs-length (known .count .0) (questionOf (card .form)) in
           sym (mod-eq-of-lt below) ∙ ap (λ (g : ℕ). entryAt alg gates g % p) last ∙ e ∙ mod-eq-of-lt l
 
       right-value : AsksYesOrNo card → output alg gates ≡ bit (allHold (base p) left right (card .conditions))
@@ -166,8 +167,8 @@ module _ (bytes : List ℕ) (card : Card) (e : readCard bytes ≡ accepted card)
       score-is asks =
           let cs = card .conditions in
           let k = length (draft .gates) in
-          let ends = sum-end (card .form) p cs k (draft .outputs) asks in
-          let solved = end-solved head cs draft sound outputs-length (known .count .0) alg odd (card .form) (known .weights) in
+          let ends = ap (λ (q : Question). endBy q p cs k (draft .outputs)) asks in
+          let solved = end-solved head cs draft sound outputs-length (known .count .0) alg odd (questionOf (card .form)) (known .weights) in
           let most : scoreOf (base p) left right cs < p = omega (arith, score-most (base p) left right cs, known .weights asks) in
           output-is (scoreOf (base p) left right cs) most
           (ap (λ (end : Segment). entryAt alg gates (end .output .gate) % p) ends

@@ -1,4 +1,4 @@
--- Every broken rule of a card gives its number, in document 01's order, and of a score card in document 02's, by computing the definitions.
+-- Every broken rule of a card gives its number, in document 01's order, and of score cards and shared cards in document 02's, by computing the definitions.
 -- Assumes nothing.
 use mathlib.Core.Path.{refl}
 use Rattle.field.specs.Polynomials.{orderExponents}
@@ -13,7 +13,7 @@ use Rattle.comparison.specs.EqualityDigit.{chain}
 use Rattle.comparison.specs.Joining.{halves, joinLowest}
 use Rattle.comparison.specs.OrderDigit.{ascending}
 use Rattle.comparison.specs.Writing.{equalityFactors, orderSegment, equalitySegment, conditionBy}
-use Rattle.query.specs.BuildOrder.{BuildOrder, ScoreOrder}
+use Rattle.query.specs.BuildOrder.{BuildOrder, ScoreOrder, SharedOrder}
 use Rattle.query.specs.Reading.{readConditions}
 use Rattle.query.specs.Score.{scaledOutputs}
 use Rattle.query.specs.Whole.{addAll}
@@ -25,3 +25,7 @@ build-order = refl
 pub score-order : ScoreOrder
 unfolding listed member primes readConditions total addAll conditionBy orderSegment equalitySegment digitsFrom ascending orderExponents laterSum chain ones halves joinLowest equalityFactors multiply scaledOutputs
 score-order = refl
+
+pub shared-order : SharedOrder
+unfolding listed member primes readConditions total addAll conditionBy orderSegment equalitySegment digitsFrom ascending orderExponents laterSum chain ones halves joinLowest equalityFactors multiply
+shared-order = refl

@@ -24,7 +24,7 @@ use Rattle.circuit.proofs.Reading.{table-length}
 use Rattle.comparison.specs.Relation.{relations}
 use Rattle.query.specs.Card.{Card, wrongConditionCount, slotsOf, totalWeight, wrongTotal}
 use Rattle.query.specs.CardPromises.{TurnedAway, RoomDecides, FillsExactly, RefusalKeeps, SameRefusal}
-use Rattle.query.specs.Form.{headSize, Form, recordMarkOf, recordSize, formOf}
+use Rattle.query.specs.Form.{headSize, Form, questionOf, recordMarkOf, recordSize, formOf}
 use Rattle.query.specs.Outcomes.{tableRoom, building, forecasting}
 use Rattle.query.specs.Reading.{readCondition, readConditions, readCard}
 use Rattle.query.specs.Whole.{tableOf}
@@ -67,7 +67,7 @@ card-refuses bytes =
     (refuse-refuses (not (eqb (length bytes) (headSize + recordSize form * count))) 7 (omega arith)
     (onAnswer-refuses (readConditions form (byte bytes 2) 0 count (drop headSize bytes)) (conditions-refuse form (byte bytes 2) 0 count (drop headSize bytes)) (λ cs.
     refuse-refuses (ltb mostDigits (slotsOf cs)) 10 (omega arith)
-    (refuse-refuses (wrongTotal form (byte bytes 2) (totalWeight cs)) 26 (omega arith) accepted-refuses)))))))))
+    (refuse-refuses (wrongTotal (questionOf form) (byte bytes 2) (totalWeight cs)) 26 (omega arith) accepted-refuses)))))))))
 
 pub turned-away : TurnedAway
 turned-away bytes lent number e = (rw e, card-refuses bytes .number number e .0)

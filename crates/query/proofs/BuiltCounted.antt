@@ -18,6 +18,7 @@ use Rattle.comparison.proofs.ConditionNetwork.{condition-network}
 use Rattle.comparison.proofs.Lawful.{base-lawful}
 use Rattle.query.specs.Card.{Card}
 use Rattle.query.specs.CountPromises.{BuiltCounted}
+use Rattle.query.specs.Form.{questionOf}
 use Rattle.query.specs.Promises.{gatesOf, ended}
 use Rattle.query.specs.Reading.{readCard}
 use Rattle.query.specs.Whole.{Draft, begin, add, addAll, filled, tableOf}
@@ -47,7 +48,7 @@ built-counted bytes card e =
     let digits = every-map (λ (c : Condition) slots. slots .0) cs (good bytes card e) in
     let conditions = all-network p three odd begin cs digits (wires 0 [] (λ x none. absurd none)) in
     let end = end-network head cs (filled card) (sound bytes card e t law) (outputs-length bytes card e t law)
-    (known bytes card e .count .0) (card .form) in
+    (known bytes card e .count .0) (questionOf (card .form)) in
     network-counted head (gatesOf card) (ended card .output) (gates-fit bytes card e t law)
     (in-sequence conditions (sym (zero-add (length (filled card .gates)))) end) (output-last bytes card e t law)
 

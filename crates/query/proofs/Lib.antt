@@ -12,3 +12,4 @@ pub mod AnyTests
 pub mod BuiltCounted
 pub mod Promises
 pub mod ScorePromises
+pub mod SharedPromises

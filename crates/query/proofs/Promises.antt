@@ -17,7 +17,7 @@ use Rattle.field.specs.Logarithm.{clog}
 use Rattle.field.specs.Sum.{total}
 use Rattle.field.proofs.Logarithm.{clog-factor}
 use Rattle.field.proofs.Tests.{in-range-false}
-use Rattle.digits.specs.Number.{base, mostDigits}
+use Rattle.digits.specs.Number.{base}
 use Rattle.digits.proofs.Number.{below-weaken}
 use Rattle.circuit.specs.Count.{count, isProduct, isSquare, products, squares, cost}
 use Rattle.circuit.specs.Depth.{depth}
@@ -38,15 +38,15 @@ use Rattle.circuit.proofs.ProductTree.{least-first}
 use Rattle.circuit.proofs.Promises.{table-reads-back, checks-tables, trims-tables, runs-tables, run-accepts}
 use Rattle.circuit.proofs.Sums.{largest-plus}
 use Rattle.circuit.proofs.TreeDepth.{tree-depth}
-use Rattle.circuit.proofs.WellFormed.{is-well-formed}
+use Rattle.circuit.proofs.WellFormed.{slot-range-false, is-well-formed}
 use Rattle.comparison.specs.Condition.{Condition}
 use Rattle.comparison.specs.Formulas.{conditionSize, conditionProducts, conditionSquares, conditionCost, costSummand}
 use Rattle.comparison.specs.Lawful.{Lawful}
 use Rattle.comparison.specs.Tests.{baseTests}
 use Rattle.comparison.proofs.Condition.{order-cost, cost-within}
 use Rattle.comparison.proofs.Lawful.{base-lawful}
-use Rattle.query.specs.Card.{Card, overConditions, slotsOf}
-use Rattle.query.specs.Form.{Form, Plain, Scored}
+use Rattle.query.specs.Card.{Card, overConditions}
+use Rattle.query.specs.Form.{Question, YesOrNo, Score, questionOf}
 use Rattle.query.specs.Formulas.{endSize, endProducts, gateCount, levelsAbove, depthFormula, productCount, squareCount, costSum}
 use Rattle.query.specs.Outcomes.{tableRoom, building}
 use Rattle.query.specs.Promises.{gatesOf, LeftSide, RightSide, ended, RightAnswer, ExactDepth, OutputsAreLast, CardTree, CardOutput, NoShallowerTree, BoundedCost, ExactCost, ExactCounts, ExactSize, SameReport, ReportedNumbers, TrimsToTable, RunsTheTable, RightRun, SameRun, BuiltRun, Built, BuildsWithRoom, BuiltValue, BuiltDepth, BuiltCost}
@@ -63,22 +63,19 @@ use Rattle.query.proofs.Whole.{Good, Sound, all-length, all-last, all-c
 -- ---- what may come after the conditions
 
 -- a product each but one, or none
-products-most : (form : Form) (c : ℕ) → endProducts form c ≤ c - 1
-products-most Plain c = le-refl _
-products-most Scored c = zero-le
+products-most : (q : Question) (c : ℕ) → endProducts q c ≤ c - 1
+products-most YesOrNo c = le-refl _
+products-most Score c = zero-le
 
-end-most : (form : Form) (c : ℕ) → endSize form c ≤ 2 * c
-end-most Plain c = omega arith
-end-most Scored c = omega arith
+end-most : (q : Question) (c : ℕ) → endSize q c ≤ 2 * c
+end-most YesOrNo c = omega arith
+end-most Score c = omega arith
 
 -- ---- document 01's table of an accepted card
 
 module _ (bytes : List ℕ) (card : Card) (e : readCard bytes ≡ accepted card) where
   abbrev p : ℕ
   p = card .prime
-
-  abbrev N : ℕ
-  N = slotsOf (card .conditions)
 
   abbrev head : Head
   head = tableOf card .head
@@ -132,23 +129,23 @@ module _ (bytes : List ℕ) (card : Card) (e : readCard bytes ≡ accepted card)
       ∙ over-powers (clog (p - 1)) (λ (c : Condition). clog (c .digits)) (card .conditions)
 
   -- the node of the end tells the formula's depth
-  end-levels : (form : Form) → endBy form p (card .conditions) (length (draft .gates)) (draft .outputs) .output .depth ≡ clog (p - 1) + levelsAbove form (card .conditions)
-  end-levels Plain =
+  end-levels : (q : Question) → endBy q p (card .conditions) (length (draft .gates)) (draft .outputs) .output .depth ≡ clog (p - 1) + levelsAbove q (card .conditions)
+  end-levels YesOrNo =
       let sum = overConditions (λ (c : Condition). 2 ^ clog (c .digits)) (card .conditions) in
       let some-sum = over-some (λ (c : Condition). clog (c .digits)) (card .conditions) (all .count .0) in
       tree-depth (length (draft .gates)) (draft .outputs) draft-some ∙ ap clog wide ∙ clog-factor (clog (p - 1)) sum some-sum
-  end-levels Scored =
+  end-levels Score =
       ap largest output-levels ∙ largest-plus (clog (p - 1)) (λ (c : Condition). clog (c .digits)) (card .conditions) (all .count .0)
 
   formula-depth : depth gates ≡ depthFormula card
-  formula-depth = sym (depth-told bytes card e (baseTests p) law) ∙ end-levels (card .form)
+  formula-depth = sym (depth-told bytes card e (baseTests p) law) ∙ end-levels (questionOf (card .form))
 
   -- ---- cost and size
 
-  pub end-has : (length (ended card .gates) ≡ endSize (card .form) (length (card .conditions)))
-      × (count isProduct (ended card .gates) ≡ endProducts (card .form) (length (card .conditions)))
+  pub end-has : (length (ended card .gates) ≡ endSize (questionOf (card .form)) (length (card .conditions)))
+      × (count isProduct (ended card .gates) ≡ endProducts (questionOf (card .form)) (length (card .conditions)))
       × (count isSquare (ended card .gates) ≡ 0)
-  end-has = end-counts head (card .conditions) draft draft-sound draft-length (all .count .0) (card .form)
+  end-has = end-counts head (card .conditions) draft draft-sound draft-length (all .count .0) (questionOf (card .form))
 
   formula-counts : (products gates ≡ productCount card) × (squares gates ≡ squareCount card)
   unfolding count
@@ -197,7 +194,7 @@ module _ (bytes : List ℕ) (card : Card) (e : readCard bytes ≡ accepted card)
         over-times 445 (λ (c : Condition). c .digits) (card .conditions),
         all .slots .1,
         all .count .1,
-        end-most (card .form) (length (card .conditions)),
+        end-most (questionOf (card .form)) (length (card .conditions)),
       )
 
   formed : wellFormed (tableOf card) ≡ true
@@ -205,7 +202,7 @@ module _ (bytes : List ℕ) (card : Card) (e : readCard bytes ≡ accepted card)
       is-well-formed (tableOf card) (record {
         prime = all .listed;
         weight = all .weightTest;
-        slots = in-range-false N 1 mostDigits (all .slots .0) (all .slots .1);
+        slots = slot-range-false (head .slots) (all .sides);
         count = in-range-false (length gates) 1 mostGates (omega (arith, last-output)) size-fits;
         fitted = gates-fit bytes card e (baseTests p) law;
       })
@@ -236,7 +233,7 @@ no-shallower-tree bytes card tree e asks same = lawful-depth bytes card (baseTes
 
 pub bounded-cost : BoundedCost
 bounded-cost bytes card e =
-    omega (arith, cost-is bytes card e, costs-within bytes card e, products-most (card .form) (length (card .conditions)))
+    omega (arith, cost-is bytes card e, costs-within bytes card e, products-most (questionOf (card .form)) (length (card .conditions)))
 
 pub exact-cost : ExactCost
 exact-cost bytes card e = (

@@ -26,7 +26,7 @@ use Rattle.comparison.specs.Relation.{Relation, relationNumber, relations}
 use Rattle.comparison.proofs.Relations.{relation-back}
 use Rattle.query.specs.Card.{Card, wrongConditionCount, slotsOf, totalWeight, wrongTotal, conditionBytes, conditionsBytes, cardBytes, inSlots, keepsRules}
 use Rattle.query.specs.CardPromises.{AcceptsCards, OnlyCards}
-use Rattle.query.specs.Form.{headSize, Form, headMarkOf, recordMarkOf, recordSize, formOf, tailBytes, keepsTail}
+use Rattle.query.specs.Form.{headSize, Form, questionOf, headMarkOf, recordMarkOf, recordSize, formOf, tailBytes, keepsTail}
 use Rattle.query.specs.Reading.{readCondition, readConditions, readLimits, readFormed, readCard}
 use Rattle.query.proofs.Form.{form-back, form-marked, record-length, tail-back, Tail, tail-says}
 
@@ -39,7 +39,7 @@ pub record Keeps (card : Card) : Type 0 where
   pub count : wrongConditionCount (length (card .conditions)) ≡ false
   pub placed : inSlots (card .form) (card .prime) 0 (card .conditions) ≡ true
   pub slots : ltb mostDigits (slotsOf (card .conditions)) ≡ false
-  pub weights : wrongTotal (card .form) (card .prime) (totalWeight (card .conditions)) ≡ false
+  pub weights : wrongTotal (questionOf (card .form)) (card .prime) (totalWeight (card .conditions)) ≡ false
 
 keeps : (card : Card) → keepsRules card ≡ true → Keeps card
 keeps card t =
@@ -247,7 +247,7 @@ reads bytes card e =
     let size = passed answer (not (eqb (length bytes) (headSize + recordSize form * byte bytes 4))) (refused 7) _ refl (count .1) in
     let conditions = answered (readConditions form (byte bytes 2) 0 (byte bytes 4) (drop headSize bytes)) (readLimits form (byte bytes 2) (byte bytes 3)) (size .1) in
     let slots = passed answer (ltb mostDigits (slotsOf (conditions .0))) (refused 10) _ refl (conditions .2) in
-    let weights = passed answer (wrongTotal form (byte bytes 2) (totalWeight (conditions .0))) (refused 26) _ refl (slots .1) in
+    let weights = passed answer (wrongTotal (questionOf form) (byte bytes 2) (totalWeight (conditions .0))) (refused 26) _ refl (slots .1) in
     let same : record { form = form; prime = byte bytes 2; weight = byte bytes 3; conditions = conditions .0 } ≡ card = accepted-same (weights .1) in
     let placed = conditions-placed form (byte bytes 2) 0 (byte bytes 4) (drop headSize bytes) (conditions .0) (conditions .1) in
     rw (← same) (record {

@@ -6,7 +6,7 @@
 use mathlib.Core.Path.{_≡_, sym, ap, _∙_}
 use mathlib.Core.Bool.{true}
 use mathlib.Core.List.{List, [], _∷_, _++_, map}
-use mathlib.Core.Logic.{_⊎_, inl, inr}
+use mathlib.Core.Logic.{_≢_, _⊎_, inl, inr}
 use Prim.Native.Nat.{ℕ, _+_, _-_, _*_, _≤_}
 use native.Mathlib.Omega.{arith}
 use lib.ListN.{length}
@@ -25,12 +25,12 @@ use Rattle.comparison.specs.Relation.{isTrue}
 use Rattle.comparison.specs.Tests.{baseTests}
 use Rattle.comparison.proofs.Lawful.{base-lawful}
 use Rattle.query.specs.Card.{inSlots}
-use Rattle.query.specs.Form.{Form, isScored}
+use Rattle.query.specs.Form.{Form, Shared, Question, Score, questionOf}
 use Rattle.query.specs.Formulas.{levelsAbove}
 use Rattle.query.specs.Holds.{scoreOf}
 use Rattle.query.specs.ScorePromises.{RightScore, SameElsewhere, Near, ScoreMoves, ScoreDepth, RightScoreRun, BuiltScoreRun, BuiltScore, BuiltScoreMoves}
 use Rattle.query.proofs.AnyTests.{known, lawful-score}
-use Rattle.query.proofs.Form.{score-form, tail-left}
+use Rattle.query.proofs.Form.{score-own, tail-left}
 use Rattle.query.proofs.OverConditions.{over-append}
 use Rattle.query.proofs.Promises.{exact-depth, runs-digits, runs-built, built-is}
 use Rattle.query.proofs.Reading.{in-slots}
@@ -45,25 +45,25 @@ Before c d = c .left + c .digits ≤ d .left
 abbrev Apart : Condition → Condition → Type 0
 Apart c d = Before d c ⊎ Before c d
 
-module _ (form : Form) (p : ℕ) where
+module _ (form : Form) (own : form ≢ Shared) (p : ℕ) where
   -- none has a left slot before the one that is free
   later-slots : (slot : ℕ) (cs : List Condition) → inSlots form p slot cs ≡ true → Every (λ (d : Condition). slot ≤ d .left) cs
   later-slots slot [] t = tt
   later-slots slot (c ∷ cs) t =
       let s = in-slots form p slot c cs t in
-      (omega (arith, tail-left form p slot c (s .tail)), every-map (λ (d : Condition) l. omega arith) cs (later-slots (slot + c .digits) cs (s .later)))
+      (omega (arith, tail-left form p slot c own (s .tail)), every-map (λ (d : Condition) l. omega arith) cs (later-slots (slot + c .digits) cs (s .later)))
 
   -- so those before c end before it, and those after c begin after it; by induction on the ones before
   others-apart : (slot : ℕ) (before after : List Condition) (c : Condition) → inSlots form p slot (before ++ (c ∷ after)) ≡ true
       → (slot ≤ c .left) × Every (Apart c) before × Every (Apart c) after
   others-apart slot [] after c t =
       let s = in-slots form p slot c after t in
-      let here = tail-left form p slot c (s .tail) in
+      let here = tail-left form p slot c own (s .tail) in
       let later = later-slots (slot + c .digits) after (s .later) in
       (omega arith, tt, every-map (λ (d : Condition) l. inr (omega arith)) after later)
   others-apart slot (d ∷ before) after c t =
       let s = in-slots form p slot d (before ++ (c ∷ after)) t in
-      let here = tail-left form p slot d (s .tail) in
+      let here = tail-left form p slot d own (s .tail) in
       let others = others-apart (slot + d .digits) before after c (s .later) in
       (omega (arith, others .0), (inl (omega (arith, others .0)), others .1), others .2)
 
@@ -98,9 +98,9 @@ module _ (B : ℕ) (left left′ right : List ℕ) (c : Condition) (long : lengt
 
 -- ---- the depth
 
-scored-levels : (form : Form) (cs : List Condition) → isScored form ≡ true
-    → levelsAbove form cs ≡ largest (map (λ (c : Condition). clog (c .digits)) cs)
-scored-levels form cs asks = ap (λ (f : Form). levelsAbove f cs) (score-form form asks)
+score-levels : (q : Question) (cs : List Condition) → q ≡ Score
+    → levelsAbove q cs ≡ largest (map (λ (c : Condition). clog (c .digits)) cs)
+score-levels q cs asks = ap (λ (q : Question). levelsAbove q cs) asks
 
 -- ---- the promises
 
@@ -114,13 +114,13 @@ pub score-moves : ScoreMoves
 score-moves bytes left left′ right card before after c e asks parts l l′ r same =
     let B = base (card .prime) in
     let placed = rw parts at (known bytes card e .placed) in
-    let others = others-apart (card .form) (card .prime) 0 before after c placed in
+    let others = others-apart (card .form) (score-own (card .form) asks) (card .prime) 0 before after c placed in
     rw (right-score bytes left right card e asks l r, right-score bytes left′ right card e asks l′ r, parts)
     (score-near B left left′ right c (l .0 ∙ sym (l′ .0)) same before after (others .1) (others .2))
 
 pub score-depth : ScoreDepth
 score-depth bytes card e asks =
-    exact-depth bytes card e ∙ ap (λ (d : ℕ). clog (card .prime - 1) + d) (scored-levels (card .form) (card .conditions) asks)
+    exact-depth bytes card e ∙ ap (λ (d : ℕ). clog (card .prime - 1) + d) (score-levels (questionOf (card .form)) (card .conditions) asks)
 
 pub right-score-run : RightScoreRun
 right-score-run bytes later left right work card e asks l r enough =

@@ -1,4 +1,4 @@
--- The order of Build's refusals (document 01, "Operations and what they turn away"; of score cards document 02, E1),
+-- The order of Build's refusals (document 01, "Operations and what they turn away"; of score cards and shared cards document 02, E1 and E6),
 -- on bytes that break every rule and are mended one rule at a time.
 -- Proved in `proofs/BuildOrder.antt`.
 use mathlib.Core.Path.{_≡_}
@@ -71,3 +71,37 @@ abbrev pub ScoreOrder : Type 0
 ScoreOrder =
     map (λ bytes. refusalIn (building bytes [] .answer)) brokenScoreCards
     ≡ 3 ∷ 4 ∷ 5 ∷ 6 ∷ 7 ∷ 2 ∷ 8 ∷ 9 ∷ 25 ∷ 5 ∷ 2 ∷ 8 ∷ 9 ∷ 25 ∷ 5 ∷ 10 ∷ 26 ∷ 11 ∷ []
+
+-- ---- shared cards
+
+-- a good head of a shared card of two conditions, p=3 and s=75
+abbrev twoShared : List ℕ → List ℕ
+twoShared records = (0xC5 ∷ 0x4A ∷ 3 ∷ 75 ∷ 2 ∷ 0 ∷ []) ++ records
+
+abbrev pub brokenSharedCards : List (List ℕ)
+brokenSharedCards =
+    (0xC5 ∷ 0x4A ∷ 9 ∷ 49 ∷ 9 ∷ 1 ∷ [])
+    ∷ (0xC5 ∷ 0x4A ∷ 3 ∷ 49 ∷ 9 ∷ 1 ∷ [])
+    ∷ (0xC5 ∷ 0x4A ∷ 3 ∷ 75 ∷ 9 ∷ 1 ∷ [])
+    ∷ (0xC5 ∷ 0x4A ∷ 3 ∷ 75 ∷ 9 ∷ 0 ∷ [])
+    ∷ twoShared (0xC5 ∷ 0x51 ∷ 7 ∷ 17 ∷ 0xC5 ∷ 0x51 ∷ 7 ∷ 17 ∷ [])
+    ∷ twoShared (0xC5 ∷ 0x57 ∷ 7 ∷ 17 ∷ 1 ∷ 1 ∷ 0xC5 ∷ 0x57 ∷ 7 ∷ 17 ∷ 16 ∷ 1 ∷ [])
+    ∷ twoShared (0xC5 ∷ 0x52 ∷ 7 ∷ 17 ∷ 1 ∷ 1 ∷ 0xC5 ∷ 0x57 ∷ 7 ∷ 17 ∷ 16 ∷ 1 ∷ [])
+    ∷ twoShared (0xC5 ∷ 0x52 ∷ 1 ∷ 17 ∷ 1 ∷ 1 ∷ 0xC5 ∷ 0x57 ∷ 7 ∷ 17 ∷ 16 ∷ 1 ∷ [])
+    ∷ twoShared (0xC5 ∷ 0x52 ∷ 1 ∷ 16 ∷ 1 ∷ 1 ∷ 0xC5 ∷ 0x57 ∷ 7 ∷ 17 ∷ 16 ∷ 1 ∷ [])
+    ∷ twoShared (0xC5 ∷ 0x52 ∷ 1 ∷ 16 ∷ 0 ∷ 1 ∷ 0xC5 ∷ 0x57 ∷ 7 ∷ 17 ∷ 16 ∷ 1 ∷ [])
+    ∷ twoShared (0xC5 ∷ 0x52 ∷ 1 ∷ 16 ∷ 0 ∷ 0 ∷ 0xC5 ∷ 0x57 ∷ 7 ∷ 17 ∷ 16 ∷ 1 ∷ [])
+    ∷ twoShared (0xC5 ∷ 0x52 ∷ 1 ∷ 16 ∷ 0 ∷ 0 ∷ 0xC5 ∷ 0x52 ∷ 7 ∷ 17 ∷ 16 ∷ 1 ∷ [])
+    ∷ twoShared (0xC5 ∷ 0x52 ∷ 1 ∷ 16 ∷ 0 ∷ 0 ∷ 0xC5 ∷ 0x52 ∷ 5 ∷ 17 ∷ 16 ∷ 1 ∷ [])
+    ∷ twoShared (0xC5 ∷ 0x52 ∷ 1 ∷ 16 ∷ 0 ∷ 0 ∷ 0xC5 ∷ 0x52 ∷ 5 ∷ 1 ∷ 16 ∷ 1 ∷ [])
+    ∷ twoShared (0xC5 ∷ 0x52 ∷ 1 ∷ 16 ∷ 0 ∷ 0 ∷ 0xC5 ∷ 0x52 ∷ 5 ∷ 1 ∷ 15 ∷ 1 ∷ [])
+    ∷ twoShared (0xC5 ∷ 0x52 ∷ 1 ∷ 16 ∷ 0 ∷ 0 ∷ 0xC5 ∷ 0x52 ∷ 5 ∷ 1 ∷ 15 ∷ 0 ∷ [])
+    ∷ twoShared (0xC5 ∷ 0x52 ∷ 1 ∷ 1 ∷ 0 ∷ 0 ∷ 0xC5 ∷ 0x52 ∷ 5 ∷ 1 ∷ 0 ∷ 0 ∷ [])
+    ∷ []
+
+-- "28, first slot plus n above 16, after 9 of its record and before a spare's 5"; "Refusal 10 counts right slots .., and 7 reads 6+6c.":
+-- 16 and 1 slots are too many on the right, though both conditions have theirs among the first 16 on the left
+abbrev pub SharedOrder : Type 0
+SharedOrder =
+    map (λ bytes. refusalIn (building bytes [] .answer)) brokenSharedCards
+    ≡ 3 ∷ 4 ∷ 5 ∷ 6 ∷ 7 ∷ 2 ∷ 8 ∷ 9 ∷ 28 ∷ 5 ∷ 2 ∷ 8 ∷ 9 ∷ 28 ∷ 5 ∷ 10 ∷ 11 ∷ []

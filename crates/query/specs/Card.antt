@@ -1,4 +1,4 @@
--- Query cards: what a card says, its bytes, and the rules that it keeps (document 01, "Card"; document 02, E1).
+-- Query cards: what a card says, its bytes, and the rules that it keeps (document 01, "Card"; document 02, E1 and E6).
 use mathlib.Core.Path.{_≡_}
 use Prim.Native.Nat.{ℕ, _+_}
 use mathlib.Core.Bool.{Bool, true, false, not, _&&_, _||_}
@@ -9,10 +9,11 @@ use Rattle.field.specs.Primes.{listed}
 use Rattle.field.specs.Sum.{total}
 use Rattle.digits.specs.Number.{mostDigits, wrongCount}
 use Rattle.circuit.specs.Bytes.{marked}
+use Rattle.circuit.specs.Sums.{largest}
 use Rattle.circuit.specs.Table.{wrongWeight}
 use Rattle.comparison.specs.Condition.{Condition}
 use Rattle.comparison.specs.Relation.{relationNumber}
-use Rattle.query.specs.Form.{Form, isScored, headMarkOf, recordMarkOf, tailBytes, keepsTail}
+use Rattle.query.specs.Form.{Form, Question, YesOrNo, Score, questionOf, headMarkOf, recordMarkOf, tailBytes, keepsTail}
 
 pub record Card : Type 0 where
   pub form : Form
@@ -22,10 +23,10 @@ pub record Card : Type 0 where
 
 -- a card asks for a yes or no, or for a score
 abbrev pub AsksYesOrNo : Card → Type 0
-AsksYesOrNo card = isScored (card .form) ≡ false
+AsksYesOrNo card = questionOf (card .form) ≡ YesOrNo
 
 abbrev pub AsksScore : Card → Type 0
-AsksScore card = isScored (card .form) ≡ true
+AsksScore card = questionOf (card .form) ≡ Score
 
 -- "condition count c (1 to 8)"
 abbrev pub mostConditions : ℕ
@@ -38,17 +39,22 @@ wrongConditionCount c = ltb c 1 || ltb mostConditions c
 abbrev pub overConditions : (Condition → ℕ) → List Condition → ℕ
 overConditions f conditions = total (map f conditions)
 
--- "The digits of all conditions together, N"
+-- "The digits of all conditions together, N"; of a shared card the right slots alone
 abbrev pub slotsOf : List Condition → ℕ
 slotsOf conditions = overConditions (λ (c : Condition). c .digits) conditions
+
+-- "the left slot count (highest used plus 1)"
+abbrev pub leftCount : List Condition → ℕ
+leftCount conditions = largest (map (λ (c : Condition). c .left + c .digits) conditions)
 
 -- "total weight"
 abbrev pub totalWeight : List Condition → ℕ
 totalWeight conditions = overConditions (λ (c : Condition). c .weight) conditions
 
 -- "26, total weight of p or more", of a card that asks for a score
-abbrev pub wrongTotal : Form → ℕ → ℕ → Bool
-wrongTotal form p weights = isScored form && leb p weights
+abbrev pub wrongTotal : Question → ℕ → ℕ → Bool
+wrongTotal YesOrNo p weights = false
+wrongTotal Score p weights = leb p weights
 
 -- "mark .., relation, n", and what the form has after n
 abbrev pub conditionBytes : Form → Condition → List ℕ
@@ -78,4 +84,4 @@ keepsRules card =
     && (not (wrongConditionCount (length (card .conditions)))
     && (inSlots (card .form) (card .prime) 0 (card .conditions)
     && (not (ltb mostDigits (slotsOf (card .conditions)))
-    && not (wrongTotal (card .form) (card .prime) (totalWeight (card .conditions)))))))
+    && not (wrongTotal (questionOf (card .form)) (card .prime) (totalWeight (card .conditions)))))))

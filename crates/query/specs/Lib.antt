@@ -1,5 +1,5 @@
 -- To be believed by a reader of the promises: what a card says, the table that Build writes, what Build and Forecast answer, demand 3,
--- and the score.
+-- the score, and the slots of shared cards.
 pub mod Form
 pub mod Card
 pub mod Reading
@@ -13,5 +13,6 @@ pub mod BuildOrder
 pub mod Promises
 pub mod CountPromises
 pub mod ScorePromises
+pub mod SharedPromises
 pub mod AnyTests
 pub mod Bench

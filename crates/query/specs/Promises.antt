@@ -1,7 +1,8 @@
 -- Demand 3: what is proved of the table of every accepted card, whatever its p, s, c, and the relation and digit count of each condition.
 -- Document 01, "Whole card": "a card is accepted where none of Build's numbers but perhaps 11 turns it away",
 -- so where `readCard` accepts its bytes. Document 02, E1: "Plain cards keep the yes-or-no claim and demand 3's depth; score cards get
--- the sum and this depth in their place, and the cost claim covers both." The sum is in `ScorePromises`.
+-- the sum and this depth in their place, and the cost claim covers both." The sum is in `ScorePromises`. E6, of shared cards: "Demand 3 holds
+-- for these cards too."; they ask for a yes or no, and their left slot count is in `SharedPromises`.
 -- Proved in `proofs/Promises.antt`.
 use mathlib.Core.Path.{_≡_}
 use mathlib.Core.Bool.{true}
@@ -39,7 +40,7 @@ abbrev pub gatesOf : Card → List Gate
 gatesOf card = tableOf card .gates
 
 -- "A record is a left list and a query a right list, of the length that 18 asks.", here with digits below (p+1)/2;
--- that length is the table's slot count of the side
+-- that length is the table's slot count of the side: "17 and 18 read each side against its own count" (document 02, E6)
 abbrev pub Side : Card → ℕ → List ℕ → Type 0
 Side card slots side = (length side ≡ slots) × (allBelow (base (card .prime)) side ≡ true)
 

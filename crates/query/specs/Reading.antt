@@ -1,5 +1,5 @@
 -- Reading a card's bytes: the card, or the number of the first rule that they break
--- (document 01, "Operations and what they turn away", Build's numbers 1 to 10; document 02, E1, 25 and 26).
+-- (document 01, "Operations and what they turn away", Build's numbers 1 to 10; document 02, E1, 25 and 26, and E6, 28).
 use Prim.Native.Nat.{ℕ, zero, suc, _+_, _*_}
 use mathlib.Core.Bool.{not}
 use mathlib.Core.List.{List, [], _∷_}
@@ -13,7 +13,7 @@ use Rattle.circuit.specs.Table.{wrongWeight}
 use Rattle.comparison.specs.Condition.{Condition}
 use Rattle.comparison.specs.Relation.{Relation, relations}
 use Rattle.query.specs.Card.{Card, wrongConditionCount, slotsOf, totalWeight, wrongTotal}
-use Rattle.query.specs.Form.{headSize, Form, recordMarkOf, recordSize, formOf, readTail}
+use Rattle.query.specs.Form.{headSize, Form, questionOf, recordMarkOf, recordSize, formOf, readTail}
 
 -- "9 n", then the rules of the form, if it adds any
 abbrev pub readCounted : Form → ℕ → ℕ → Relation → List ℕ → Answer Condition
@@ -32,10 +32,10 @@ readConditions form p slot (suc count) bytes =
     onAnswer (readCondition form p slot bytes) refused (λ c.
     onAnswer (readConditions form p (slot + c .digits) count (drop (recordSize form) bytes)) refused (λ cs. accepted (c ∷ cs)))
 
--- "then 10 N over 16"; "26, total weight of p or more, after 10"; or what was read
+-- "then 10 N over 16", of a shared card "Refusal 10 counts right slots"; "26, total weight of p or more, after 10"; or what was read
 abbrev pub withinLimits : {A : Type 0} → Form → ℕ → ℕ → ℕ → A → Answer A
 withinLimits form p slots weights read =
-    refuse (ltb mostDigits slots) (refused 10) (refuse (wrongTotal form p weights) (refused 26) (accepted read))
+    refuse (ltb mostDigits slots) (refused 10) (refuse (wrongTotal (questionOf form) p weights) (refused 26) (accepted read))
 
 abbrev pub readLimits : Form → ℕ → ℕ → List Condition → Answer Card
 readLimits form p s conditions =
@@ -43,7 +43,7 @@ readLimits form p s conditions =
     (record { form = form; prime = p; weight = s; conditions = conditions })
 
 -- "3 p not listed; 4 s; 5 spare not 0; 6 c; 7 length not 6+4c; then by condition": a card whose form is known, and so its records' size;
--- "the length rule 7 reads 6+6c" in a score card
+-- "the length rule 7 reads 6+6c" in a score card, and "7 reads 6+6c" in a shared card
 abbrev pub readFormed : Form → List ℕ → Answer Card
 readFormed form bytes =
     let p = byte bytes 2 in

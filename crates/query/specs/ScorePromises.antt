@@ -1,4 +1,4 @@
--- Document 02, E1: what is proved of the table of every accepted score card, beside what `Promises` has of both forms:
+-- Document 02, E1: what is proved of the table of every accepted score card, beside what `Promises` has of every form:
 -- its output is the score, as a number and not only modulo p; a changed condition moves it by its weight at most; and its depth.
 -- Proved in `proofs/ScorePromises.antt`, and `OldWeights` in `proofs/Score.antt`.
 use mathlib.Core.Path.{_≡_}

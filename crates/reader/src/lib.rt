@@ -2,18 +2,24 @@
 use answer::Depth;
 use answer::Refusal;
 use gates::GateRead;
-use records::HEAD_MARK;
+use records::BOTH_MARK;
+use records::EACH_MARK;
 use records::LEAST_WEIGHT;
 use records::MOST_GATES;
 use records::MOST_WEIGHT;
 use records::RECORD;
+use records::SlotCounts;
 use records::TableHead;
 ghost use mathlib.Core.Path.{_≡_};
+ghost use mathlib.Core.Bool.{_&&_};
 ghost use Prim.Native.Nat.{_≤_};
 ghost use lib.ListN.{length, drop};
+ghost use Rattle.digits.specs.Number.{wrongCount};
+ghost use Rattle.circuit.specs.Bytes.{wrongMark};
 ghost use Rattle.circuit.specs.Reading.{readGates, readHead, reading};
+ghost use Rattle.circuit.specs.Table.{bothMark, eachMark, wrongSlots, wrongSpare};
 ghost use Rattle.gates.specs.GateDepth.{gateAnswer};
-ghost use Rattle.records.specs.Head.{headIs};
+ghost use Rattle.records.specs.Head.{slotsIs, headIs};
 ghost use Rattle.reader.specs.HeadAnswer.{headAnswer};
 ghost use Rattle.reader.specs.Outline.{fewGates, Readable, depthIn, outlineIn, outlineAfter, tableAnswer};
 
@@ -39,6 +45,41 @@ enum HeadRead {
     Refused(Refusal),
 }
 
+// Whether a table opens with neither mark of a head.
+fn lacks_head_mark(table: &[u8]) -> bool
+    requires { ⌜ 2 ≤ length (now table) ⌝ }
+    ensures { λ r. ⌜ r ≡ (wrongMark bothMark (now (table .entry)) && wrongMark eachMark (now (table .entry))) ⌝ }
+{
+    records::lacks_mark(table, BOTH_MARK) && records::lacks_mark(table, EACH_MARK)
+}
+
+// Whether a slot count is not 1 to 16.
+fn count_outside(n: u8) -> bool
+    ensures { λ r. ⌜ r ≡ wrongCount n ⌝ }
+{
+    records::outside(arithmetic::wide(n), 1, digits::MOST_DIGITS)
+}
+
+// Whether the slot count of a side is not 1 to 16.
+fn slots_outside(slots: SlotCounts) -> bool
+    ensures { λ r. ⌜ r ≡ wrongSlots (slotsIs slots) ⌝ }
+{
+    match slots {
+        SlotCounts::Both(n) => count_outside(n),
+        SlotCounts::Each(left, right) => count_outside(left) || count_outside(right),
+    }
+}
+
+// Whether byte 5 of a head is a spare that is not 0. Where each side has a count, byte 5 is the right one, and no spare.
+fn spare_outside(slots: SlotCounts, spare: u8) -> bool
+    ensures { λ r. ⌜ r ≡ wrongSpare (slotsIs slots) spare ⌝ }
+{
+    match slots {
+        SlotCounts::Both(_) => spare != 0,
+        SlotCounts::Each(_, _) => false,
+    }
+}
+
 // The head of a table, or the first of its rules that is broken.
 fn read_head(table: &[u8]) -> HeadRead
     ensures { λ r. ⌜ headAnswer r ≡ readHead (now (table .entry)) ⌝ }
@@ -46,22 +87,24 @@ fn read_head(table: &[u8]) -> HeadRead
     if table.len() < RECORD {
         return HeadRead::Refused(Refusal::TableHeadTooShort);
     }
-    if records::lacks_mark(table, HEAD_MARK) {
+    if lacks_head_mark(table) {
         return HeadRead::Refused(Refusal::WrongMark);
     }
     let head = records::head_at(table);
-    let spare = table[5];
+    let slots = head.slots;
     let count = records::u16_at(table, 6);
+    let wrong_slots = slots_outside(slots);
+    let wrong_spare = spare_outside(slots, table[5]);
     if !arithmetic::is_listed(head.prime) {
         return HeadRead::Refused(Refusal::PrimeNotListed);
     }
     if records::outside(arithmetic::wide(head.weight), LEAST_WEIGHT, MOST_WEIGHT) {
         return HeadRead::Refused(Refusal::WeightOutOfRange);
     }
-    if records::outside(arithmetic::wide(head.slots), 1, digits::MOST_DIGITS) {
+    if wrong_slots {
         return HeadRead::Refused(Refusal::SlotCount);
     }
-    if records::outside(arithmetic::wide(spare), 0, 0) {
+    if wrong_spare {
         return HeadRead::Refused(Refusal::SpareNotZero);
     }
     if records::outside(count, 1, MOST_GATES) {

@@ -7,13 +7,16 @@ ghost use lib.Dec.{ltb};
 ghost use lib.ListN.{length, take};
 ghost use Rattle.circuit.specs.Bytes.{wrongMark, u16At};
 ghost use Rattle.circuit.specs.Every.{Every};
-ghost use Rattle.circuit.specs.Reading.{headOf};
+ghost use Rattle.circuit.specs.Reading.{slotsAt, headOf};
+ghost use Rattle.circuit.specs.Table.{leftOf, rightOf};
 ghost use Rattle.records.specs.Marks.{markOf};
-ghost use Rattle.records.specs.Head.{headIs};
+ghost use Rattle.records.specs.Head.{slotsIs, headIs};
 ghost use Rattle.records.specs.Operands.{operandsOf, operandsAt, entered};
 
-// The marks of a head and of a gate.
-pub const HEAD_MARK: [u8; 2] = [0x47, 0x48];
+// The marks of a head with one slot count for both sides and of one with a count for each side, and of a gate.
+pub const BOTH_MARK: [u8; 2] = [0x47, 0x48];
+
+pub const EACH_MARK: [u8; 2] = [0x47, 0x4A];
 
 pub const GATE_MARK: [u8; 2] = [0x47, 0x54];
 
@@ -28,11 +31,17 @@ pub const MOST_WEIGHT: usize = 100;
 // The most gates of a table.
 pub const MOST_GATES: usize = 8191;
 
-// The prime, the weight of a square and the slot count.
+// How many slots the sides have: one count for both, or the left one and the right one.
+pub enum SlotCounts {
+    Both(u8),
+    Each(u8, u8),
+}
+
+// The prime, the weight of a square and the slot counts.
 pub struct TableHead {
     pub prime: u8,
     pub weight: u8,
-    pub slots: u8,
+    pub slots: SlotCounts,
 }
 
 // Two bytes, the low one first.
@@ -64,15 +73,46 @@ pub fn outside(x: usize, low: usize, high: usize) -> bool
     high < x
 }
 
+// How many slots the left side has.
+pub fn left_slots(slots: SlotCounts) -> usize
+    ensures { λ r. ⌜ r ≡ leftOf (slotsIs slots) ⌝ }
+{
+    match slots {
+        SlotCounts::Both(n) => arithmetic::wide(n),
+        SlotCounts::Each(left, _) => arithmetic::wide(left),
+    }
+}
+
+// How many slots the right side has.
+pub fn right_slots(slots: SlotCounts) -> usize
+    ensures { λ r. ⌜ r ≡ rightOf (slotsIs slots) ⌝ }
+{
+    match slots {
+        SlotCounts::Both(n) => arithmetic::wide(n),
+        SlotCounts::Each(_, right) => arithmetic::wide(right),
+    }
+}
+
+// What the bytes of a head say of the slots. Its mark tells whether byte 5 is a count.
+fn slots_at(table: &[u8]) -> SlotCounts
+    requires { ⌜ 6 ≤ length (now table) ⌝ }
+    ensures { λ r. ⌜ slotsIs r ≡ slotsAt (now (table .entry)) ⌝ }
+{
+    if lacks_mark(table, EACH_MARK) {
+        return SlotCounts::Both(table[4]);
+    }
+    SlotCounts::Each(table[4], table[5])
+}
+
 // What the bytes of a head say.
 pub fn head_at(table: &[u8]) -> TableHead
-    requires { ⌜ 5 ≤ length (now table) ⌝ }
+    requires { ⌜ 6 ≤ length (now table) ⌝ }
     ensures { λ r. ⌜ headIs r ≡ headOf (now (table .entry)) ⌝ }
 {
     TableHead {
         prime: table[2],
         weight: table[3],
-        slots: table[4],
+        slots: slots_at(table),
     }
 }
 

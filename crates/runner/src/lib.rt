@@ -105,12 +105,14 @@ fn run_checked(table: &[u8], count: usize, left: &[u8], right: &[u8], work: &mut
     ensures leaves { λ r. ⌜ now (work .exit) ≡ running (now (table .entry)) (now (left .entry)) (now (right .entry)) (now (work .entry)) .lent ⌝ }
 {
     let head = records::head_at(table);
-    let slots = arithmetic::wide(head.slots);
+    let slots = head.slots;
+    let left_slots = records::left_slots(slots);
+    let right_slots = records::right_slots(slots);
     let prime = arithmetic::wide(head.prime) as u64;
-    if left.len() != slots {
+    if left.len() != left_slots {
         return Ran::Refused(Refusal::ListLength);
     }
-    if right.len() != slots {
+    if right.len() != right_slots {
         return Ran::Refused(Refusal::ListLength);
     }
     if !coding::are_below(left, prime) {

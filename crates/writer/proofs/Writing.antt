@@ -12,7 +12,7 @@ use Rattle.circuit.specs.Count.{count, isProduct, isSquare}
 use Rattle.circuit.specs.Gate.{Gate, gateBytes}
 use Rattle.circuit.specs.Table.{gatesBytes, tableBytes, headBytes, Table}
 use Rattle.circuit.proofs.Count.{count-append}
-use Rattle.circuit.proofs.Reading.{length-gates}
+use Rattle.circuit.proofs.Reading.{length-gates, head-length}
 use Rattle.writer.specs.declared.Pen.{Pen}
 use Rattle.writer.specs.Pen.{laid, Wrote}
 
@@ -39,9 +39,12 @@ unfolding laid
 whole table lent room =
     let head = headBytes (table .head) (length (table .gates)) in
     let gates = gatesBytes (table .gates) in
+    let eight : length head ≡ 8 = head-length (table .head) (length (table .gates)) in
     let size : length (head ++ gates) ≡ 8 * (length (table .gates) + 1) = length-append head gates ∙ omega (arith, length-gates (table .gates)) in
+    let first : 8 * (0 + 1) ≡ 0 + length head = omega arith in
     let end : 0 + length (head ++ gates) ≡ 8 * (length (table .gates) + 1) = omega (arith, size) in
-    sym (sets-append lent 0 head gates)
+    ap (λ (k : ℕ). sets (sets lent 0 head) k gates) first
+    ∙ sym (sets-append lent 0 head gates)
     ∙ sets-eq (head ++ gates) lent 0 (omega (arith, size))
     ∙ ap (λ (k : ℕ). (head ++ gates) ++ drop k lent) end
 

@@ -1,18 +1,23 @@
 // Writing gate tables: the head, and one gate at a time by a pen that counts.
+use records::BOTH_MARK;
+use records::EACH_MARK;
 use records::GATE_MARK;
-use records::HEAD_MARK;
 use records::RECORD;
+use records::SlotCounts;
 ghost use mathlib.Core.Path.{_≡_};
 ghost use mathlib.Core.List.{[], _∷_};
 ghost use Prim.Native.Nat.{_+_, _*_, _≤_, _<_, max};
 ghost use lib.ListN.{length};
 ghost use lib.Seq.{sets};
+ghost use Rattle.circuit.specs.Bytes.{marked, u16};
 ghost use Rattle.circuit.specs.Constant.{signed};
 ghost use Rattle.circuit.specs.Count.{count as countOf, isProduct, isSquare};
 ghost use Rattle.circuit.specs.Gate.{row, recordBytes, Left, Right, Add, Sub, Scale, Flip, Mul};
 ghost use Rattle.circuit.specs.Segment.{times};
 ghost use Rattle.circuit.specs.Table.{headBytes, mostGates};
 ghost use Rattle.comparison.specs.Difference.{minus};
+ghost use Rattle.records.specs.Head.{slotsIs};
+ghost use Rattle.records.specs.Marks.{markOf};
 ghost use Rattle.writer.specs.Nodes.{nodeIs};
 ghost use Rattle.writer.specs.Pen.{fresh, Wrote, Room, Moved};
 
@@ -53,20 +58,40 @@ pub fn new_pen() -> Pen
     }
 }
 
-// Writes the head of a table.
-pub fn put_head(table: &mut [u8], prime: u8, weight: u8, slots: u8, count: u16)
+// Writes the eight bytes of a head: its mark, the prime, the weight of a square, bytes 4 and 5, and the gate count.
+fn put_head_bytes(
+    table: &mut [u8],
+    mark: [u8; 2],
+    prime: u8,
+    weight: u8,
+    fourth: u8,
+    fifth: u8,
+    count: u16,
+)
     requires { ⌜ 8 ≤ length (now table) ⌝ }
-    ensures { λ _. ⌜ now (table .exit) ≡ sets (now (table .entry)) 0 (headBytes (record { prime = prime; weight = weight; slots = slots }) count) ⌝ }
+    ensures { λ _. ⌜ now (table .exit) ≡ sets (now (table .entry)) 0 (marked (markOf mark) (prime ∷ weight ∷ fourth ∷ fifth ∷ u16 count [])) ⌝ }
 {
-    let mark = HEAD_MARK;
     table[0] = mark[0];
     table[1] = mark[1];
     table[2] = prime;
     table[3] = weight;
-    table[4] = slots;
-    table[5] = 0;
+    table[4] = fourth;
+    table[5] = fifth;
     table[6] = (count % 256) as u8;
     table[7] = (count / 256) as u8;
+}
+
+// Writes the head of a table. Where one count serves both sides, byte 5 is spare.
+pub fn put_head(table: &mut [u8], prime: u8, weight: u8, slots: SlotCounts, count: u16)
+    requires { ⌜ 8 ≤ length (now table) ⌝ }
+    ensures { λ _. ⌜ now (table .exit) ≡ sets (now (table .entry)) 0 (headBytes (record { prime = prime; weight = weight; slots = slotsIs slots }) count) ⌝ }
+{
+    match slots {
+        SlotCounts::Both(n) => put_head_bytes(table, BOTH_MARK, prime, weight, n, 0, count),
+        SlotCounts::Each(left, right) => {
+            put_head_bytes(table, EACH_MARK, prime, weight, left, right, count)
+        }
+    }
 }
 
 // Writes the record of gate number k.

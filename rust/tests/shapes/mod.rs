@@ -1,4 +1,19 @@
-//! Tables of one shape in any size, by which Check's counts are compared and timed.
+//! Tables of one shape in any size, by which Check's counts are compared and timed; and the slot counts
+//! of any table, by which lists for Run are made.
+
+/// The mark of a head with a slot count for each side.
+pub const TWO_COUNTS_MARK: [u8; 2] = [0x47, 0x4A];
+
+/// The slot counts in the head of a table, of the left side and of the right side; where the head is
+/// cut short, 1.
+pub fn slot_counts(table: &[u8]) -> (u8, u8) {
+    let left = table.get(4).copied().unwrap_or(1);
+    if table.starts_with(&TWO_COUNTS_MARK) {
+        (left, table.get(5).copied().unwrap_or(1))
+    } else {
+        (left, left)
+    }
+}
 
 /// Kind, a and b.
 pub type Gate = (u8, u16, u16);

@@ -25,20 +25,26 @@ fn bench_card(script: &mut Script) {
     script.check();
     script.trim();
     script.run(3, &[0], &[0]);
-    script.forecast(&BENCH);
-    for room in [63, 64, 65, 40] {
-        script.build(room, &BENCH);
-        script.check();
-        script.trim();
-    }
-    script.cut(64);
-    script.check();
+    bench_in_rooms(script, &BENCH, 64);
     for left in 0..3 {
         for right in 0..3 {
             script.run(9, &[left], &[right]);
         }
     }
     script.forecast(&BENCH[..9]);
+}
+
+/// The bench card of a form: in one byte less than its table takes, just enough,
+/// one more, and few that are shown; then its table in as many bytes.
+pub fn bench_in_rooms(script: &mut Script, card: &[u8], length: usize) {
+    script.forecast(card);
+    for room in [length - 1, length, length + 1, 40] {
+        script.build(room, card);
+        script.check();
+        script.trim();
+    }
+    script.cut(length);
+    script.check();
 }
 
 fn counts_of_the_document(script: &mut Script) {
@@ -82,6 +88,18 @@ pub fn both(script: &mut Script, card: &[u8]) {
     script.build(20, card);
 }
 
+/// A card of two conditions with a byte too many, whose head and length are mended
+/// one rule at a time; the mark of the head ends with this byte.
+pub fn mend_head(script: &mut Script, card: &mut Vec<u8>, mark: u8) {
+    both(script, &card[..5]);
+    both(script, &card[..6]);
+    both(script, card);
+    let head = [(0, 0xC5), (1, mark), (2, 5), (3, 50), (5, 0), (4, 2)];
+    mend(script, card, &head);
+    card.pop();
+    both(script, card);
+}
+
 /// Everything is wrong at first; each step mends the first wrong thing.
 fn card_mended_one_rule_at_a_time(script: &mut Script) {
     let mut card = vec![0xC4, 0x49, 4, 49, 9, 1];
@@ -90,13 +108,7 @@ fn card_mended_one_rule_at_a_time(script: &mut Script) {
     card.push(0xFF);
     both(script, &[]);
     both(script, &card[..1]);
-    both(script, &card[..5]);
-    both(script, &card[..6]);
-    both(script, &card);
-    let head = [(0, 0xC5), (1, 0x48), (2, 5), (3, 50), (5, 0), (4, 2)];
-    mend(script, &mut card, &head);
-    card.pop();
-    both(script, &card);
+    mend_head(script, &mut card, 0x48);
     mend(script, &mut card, &[(6, 0xC5), (7, 0x51), (8, 1), (9, 16)]);
     mend(
         script,

@@ -8,6 +8,9 @@ mod relations;
 mod runs;
 mod score_cards;
 mod score_runs;
+mod shared_cards;
+mod shared_runs;
+mod shared_tables;
 mod tables;
 mod used_products;
 mod words;
@@ -20,6 +23,9 @@ const BENCH: [u8; 10] = [0xC5, 0x48, 0x03, 0x4B, 1, 0, 0xC5, 0x51, 1, 1];
 
 /// The same card as a score card, with a weight of 1.
 const SCORE_BENCH: [u8; 12] = [0xC5, 0x53, 0x03, 0x4B, 1, 0, 0xC5, 0x57, 1, 1, 1, 0];
+
+/// The same card as a shared card, with its first left slot 0.
+const SHARED_BENCH: [u8; 12] = [0xC5, 0x4A, 0x03, 0x4B, 1, 0, 0xC5, 0x52, 1, 1, 0, 0];
 
 /// The primes at which each relation is tried.
 const SOME_PRIMES: [u8; 9] = [3, 5, 7, 11, 13, 17, 31, 127, 251];
@@ -42,5 +48,8 @@ pub fn cases() -> String {
     constants::write(&mut script);
     last_uses::write(&mut script);
     used_products::write(&mut script);
+    shared_cards::write(&mut script);
+    shared_tables::write(&mut script);
+    shared_runs::write(&mut script);
     script.finish()
 }

@@ -1,6 +1,6 @@
 //! Score cards: what Forecast and Build answer and turn away.
 
-use super::cards::{both, each_in_rooms, each_pair_broken, mend, Break};
+use super::cards::{bench_in_rooms, both, each_in_rooms, each_pair_broken, mend, mend_head, Break};
 use super::writer::Script;
 use super::{SCORE_BENCH, SOME_PRIMES};
 use crate::card::{card_bytes, score_card_bytes};
@@ -28,14 +28,7 @@ pub fn write(script: &mut Script) {
 }
 
 fn bench_card(script: &mut Script) {
-    script.forecast(&SCORE_BENCH);
-    for room in [71, 72, 73, 40] {
-        script.build(room, &SCORE_BENCH);
-        script.check();
-        script.trim();
-    }
-    script.cut(72);
-    script.check();
+    bench_in_rooms(script, &SCORE_BENCH, 72);
     script.forecast(&SCORE_BENCH[..11]);
 }
 
@@ -45,13 +38,7 @@ fn card_mended_one_rule_at_a_time(script: &mut Script) {
     card.extend([0xC4, 0x56, 0, 0, 0, 1]);
     card.extend([0xC4, 0x56, 7, 17, 5, 255]);
     card.push(0xFF);
-    both(script, &card[..5]);
-    both(script, &card[..6]);
-    both(script, &card);
-    let head = [(0, 0xC5), (1, 0x53), (2, 5), (3, 50), (5, 0), (4, 2)];
-    mend(script, &mut card, &head);
-    card.pop();
-    both(script, &card);
+    mend_head(script, &mut card, 0x53);
     let first = [(6, 0xC5), (7, 0x57), (8, 1), (9, 16), (10, 4), (11, 0)];
     mend(script, &mut card, &first);
     let second = [(12, 0xC5), (13, 0x57), (14, 5), (15, 16), (16, 4), (17, 0)];

@@ -5,7 +5,7 @@ use super::BENCH;
 use crate::card::card_bytes;
 use crate::field::{near_zero, PRIMES};
 use crate::random::Random;
-use crate::table::{Gate, Head, Kind};
+use crate::table::{Gate, Head, Kind, Slots};
 
 pub fn write(script: &mut Script) {
     table_mended_one_rule_at_a_time(script);
@@ -22,15 +22,6 @@ pub fn write(script: &mut Script) {
     gate_counts(script);
 }
 
-fn head(p: u8, weight: u8, slots: u8, gates: usize) -> Head {
-    Head {
-        p,
-        weight,
-        slots,
-        gates: gates as u16,
-    }
-}
-
 pub fn gate(kind: Kind, a: u16, b: u16) -> Gate {
     Gate { kind, a, b }
 }
@@ -41,7 +32,18 @@ pub fn scale(a: u16, constant: i16) -> Gate {
 }
 
 pub fn table_of(p: u8, weight: u8, slots: u8, gates: &[Gate]) -> Vec<u8> {
-    let mut bytes = head(p, weight, slots, gates.len()).record().to_vec();
+    table_with(p, weight, Slots::Both(slots), gates)
+}
+
+/// A table of these gates, with the head that these slots ask for.
+pub fn table_with(p: u8, weight: u8, slots: Slots, gates: &[Gate]) -> Vec<u8> {
+    let head = Head {
+        p,
+        weight,
+        slots,
+        gates: gates.len() as u16,
+    };
+    let mut bytes = head.record().to_vec();
     for gate in gates {
         bytes.extend(gate.record());
     }
@@ -67,7 +69,21 @@ fn table_mended_one_rule_at_a_time(script: &mut Script) {
         bytes.extend([0x46, 0x55, 8, 1, 3, 0, 3, 1]);
     }
     script.table(&bytes);
-    for length in [0, 7, 31] {
+    script.cut(0);
+    look(script);
+    mend_table(script, &good);
+    script.run(2, &[5, 5], &[5]);
+    script.run(2, &[5], &[5, 5]);
+    script.run(2, &[5, 5, 5], &[5, 5]);
+    script.run(2, &[5, 4], &[5, 4]);
+    script.run(2, &[4, 4], &[4, 5]);
+    script.run(2, &[4, 4], &[4, 4]);
+    script.run(3, &[4, 3], &[4, 4]);
+}
+
+/// The current table, of three gates, becomes a good one: one rule after the other.
+pub fn mend_table(script: &mut Script, good: &[u8]) {
+    for length in [7, 31] {
         script.cut(length);
         look(script);
     }
@@ -88,13 +104,6 @@ fn table_mended_one_rule_at_a_time(script: &mut Script) {
             look(script);
         }
     }
-    script.run(2, &[5, 5], &[5]);
-    script.run(2, &[5], &[5, 5]);
-    script.run(2, &[5, 5, 5], &[5, 5]);
-    script.run(2, &[5, 4], &[5, 4]);
-    script.run(2, &[4, 4], &[4, 5]);
-    script.run(2, &[4, 4], &[4, 4]);
-    script.run(3, &[4, 3], &[4, 4]);
 }
 
 fn look(script: &mut Script) {

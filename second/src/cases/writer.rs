@@ -90,16 +90,23 @@ impl Script {
 }
 
 /// Two lists of digits for an accepted card; about `changed` of eight digits
-/// of the right one differ from the left one.
+/// of the right one differ from those of the left one that they are compared
+/// with.
 pub fn draw_lists(random: &mut Random, card: &[u8], changed: u64) -> (Vec<u8>, Vec<u8>) {
     let card = Card::read(card).expect("an accepted card");
     let base = half_range(card.p);
-    let left = random.bytes_below(base, card.digits());
-    let mut right = left.clone();
+    let left = random.bytes_below(base, card.left_slots());
+    let mut right = equal_right(&card, &left);
     for digit in &mut right {
         if random.below(8) < changed {
             *digit = random.byte_below(base);
         }
     }
     (left, right)
+}
+
+/// The right list on which each condition's two numbers are equal.
+pub fn equal_right(card: &Card, left: &[u8]) -> Vec<u8> {
+    let numbers = card.conditions.iter().map(|c| &left[c.left_slots()]);
+    numbers.flatten().copied().collect()
 }

@@ -87,6 +87,9 @@ enum-told-26 c = search needs
 enum-told-27 : tie.Need-enum-told-27
 enum-told-27 c = search needs
 
+enum-told-28 : tie.Need-enum-told-28
+enum-told-28 c = search needs
+
 returns : tie.Need-returns
 returns c = ap refusalNumber (sym (c .enum-told .given .1))
 
@@ -168,6 +171,9 @@ returns-26 c = ap refusalNumber (sym (c .enum-told26 .given .1))
 returns-27 : tie.Need-returns-27
 returns-27 c = ap refusalNumber (sym (c .enum-told27 .given .1))
 
+returns-28 : tie.Need-returns-28
+returns-28 c = ap refusalNumber (sym (c .enum-told28 .given .1))
+
 pub refusal-number-spec : {M : Type 1} → statement M
 refusal-number-spec =
     tie.close
@@ -199,6 +205,7 @@ refusal-number-spec =
     enum-told-25
     enum-told-26
     enum-told-27
+    enum-told-28
     returns
     returns-2
     returns-3
@@ -225,4 +232,5 @@ refusal-number-spec =
     returns-24
     returns-25
     returns-26
-    returns-27)
+    returns-27
+    returns-28)

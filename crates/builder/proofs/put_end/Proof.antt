@@ -1,13 +1,12 @@
--- `builder::put_end` meets its contract: in each arm of the match the form is known, and so what ends the table.
+-- `builder::put_end` meets its contract: in each arm of the match it is known what the card asks for, and so what ends its table.
 -- Assumes nothing.
-use mathlib.Core.Path.{_≡_, ap}
+use mathlib.Core.Path.{_≡_, sym, ap, _∙_}
 use Prim.Native.Nat.{_-_, _*_}
 use native.Mathlib.Omega.{arith}
 use borrow.Author.Needs.{needs}
-use Rattle.query.specs.Form.{Scored}
+use Rattle.query.specs.Form.{Question, YesOrNo, Score, questionOf}
 use Rattle.query.specs.Formulas.{endSize}
-use Rattle.card.specs.declared.Form.{Form}
-use Rattle.card.specs.Parts.{formIs}
+use Rattle.card.specs.Parts.{formIs, questionIs}
 use Rattle.card.proofs.ReadAs.{as-many}
 use Rattle.builder.specs.Ending.{Endable}
 use Rattle.builder.proofs.put_end.Statement.{statement}
@@ -15,27 +14,40 @@ use Rattle.builder.proofs.put_end.Tie as tie
 
 -- ---- the arms, and where the function began
 
-abbrev start : tie.After-enum-told → tie.Start
-start t = t .before .before .before .before .before .before
+abbrev start : tie.After-question-of → tie.Start
+start q = q .before .before .before .before .before
 
-abbrev startScore : tie.After-enum-told2 → tie.Start
-startScore t = t .before .before .before .before .before .before
+abbrev asked : tie.After-enum-told → tie.After-question-of
+asked t = t .before .before
 
-abbrev plain : tie.After-wide → tie.After-enum-told
-plain w = w .before .before .before .before
+abbrev askedScore : tie.After-enum-told2 → tie.After-question-of
+askedScore t = t .before .before
 
--- as many gates as the form asks for
+abbrev tree : tie.After-wide → tie.After-enum-told
+tree w = w .before .before .before .before
+
+-- what the card asks for
+yes-or-no : (t : tie.After-enum-told) → questionOf (formIs (start (asked t) .args .head .form)) ≡ YesOrNo
+yes-or-no t = sym (asked t .question-of .ensures) ∙ ap questionIs (t .enum-told .given .1)
+
+score : (t : tie.After-enum-told2) → questionOf (formIs (start (askedScore t) .args .head .form)) ≡ Score
+score t = sym (askedScore t .question-of .ensures) ∙ ap questionIs (t .enum-told2 .given .1)
+
+-- as many gates as that takes
 tree-size : (t : tie.After-enum-told) → (
-    let head = start t .args .head in endSize (formIs (head .form)) (head .count) ≡ head .count - 1
+    let head = start (asked t) .args .head in endSize (questionOf (formIs (head .form))) (head .count) ≡ head .count - 1
     )
-tree-size t = ap (λ (f : Form). endSize (formIs f) (start t .args .head .count)) (t .enum-told .given .1)
+tree-size t = ap (λ (q : Question). endSize q (start (asked t) .args .head .count)) (yes-or-no t)
 
 score-size : (t : tie.After-enum-told2) → (
-    let head = startScore t .args .head in endSize (formIs (head .form)) (head .count) ≡ 2 * head .count - 1
+    let head = start (askedScore t) .args .head in endSize (questionOf (formIs (head .form))) (head .count) ≡ 2 * head .count - 1
     )
-score-size t = ap (λ (f : Form). endSize (formIs f) (startScore t .args .head .count)) (t .enum-told2 .given .1)
+score-size t = ap (λ (q : Question). endSize q (start (askedScore t) .args .head .count)) (score t)
 
 -- ---- the needs
+
+question-of-requires : tie.Need-question-of-requires
+question-of-requires c κs = search needs
 
 enum-told : tie.Need-enum-told
 enum-told c = search needs
@@ -45,8 +57,8 @@ wide-requires c κs = search needs
 
 put-product-tree-requires : tie.Need-put-product-tree-requires
 put-product-tree-requires c κs =
-    let t = plain c in
-    let s = start t in
+    let t = tree c in
+    let s = start (asked t) in
     let all = as-many (s .args .card .now) (s .args .head) (s .pre .0 .reads) in
     let many = c .wide .ensures .0 in (
       (omega (arith, s .pre .0 .room, tree-size t, many), omega (arith, all, many), omega (arith, many, s .pre .0 .outputs), s .pre .0 .outputs .1),
@@ -59,14 +71,14 @@ enum-told-2 c = search needs
 put-score-requires : tie.Need-put-score-requires
 put-score-requires c κs =
     let t = c .before .before .before in
-    let s = startScore t in
-    let ready : Endable (s .args .card .now) (s .args .head) (endSize Scored (s .args .head .count)) (s .args .table .now) (s .args .pen) (s .args .gates .now) (s .args .depths .now)
+    let s = start (askedScore t) in
+    let ready : Endable (s .args .card .now) (s .args .head) (endSize Score (s .args .head .count)) (s .args .table .now) (s .args .pen) (s .args .gates .now) (s .args .depths .now)
     = record {
       reads = s .pre .0 .reads;
       room = omega (arith, s .pre .0 .room, score-size t);
       outputs = s .pre .0 .outputs;
     } in
-    (ready, ap formIs (t .enum-told2 .given .1))
+    (ready, score t)
 
 same-length : tie.Need-same-length
 same-length c = search needs
@@ -82,7 +94,7 @@ returns c =
     let p = c .before .before .before .before .before .before in
     let w = p .before in
     let r = rw (w .wide .ensures .0) at (p .put-product-tree .ensures) in
-    rw (plain w .enum-told .given .1) (r .0, r .1 .1)
+    rw (yes-or-no (tree w)) (r .0, r .1 .1)
 
 same-length-4 : tie.Need-same-length-4
 same-length-4 c = search needs
@@ -95,12 +107,13 @@ same-length-6 c = search needs
 
 returns-2 : tie.Need-returns-2
 returns-2 c =
-    let p = c .before .before in rw (p .before .before .before .before .enum-told2 .given .1) (p .put-score .ensures)
+    let p = c .before .before in rw (score (p .before .before .before .before)) (p .put-score .ensures)
 
 pub put-end-spec : {M : Type 1} → statement M
 put-end-spec =
     tie.close
     (tie.spec
+    question-of-requires
     enum-told
     wide-requires
     put-product-tree-requires

@@ -16,7 +16,7 @@ abbrev start : tie.After-prepare-order → tie.Start
 start o = o .before .before .before .before .before .before .before .before .before
 
 abbrev prepared : tie.After-put-head → tie.After-prepare-order
-prepared h = h .before .before .before .before .before .before
+prepared h = h .before .before .before .before .before .before .before
 
 abbrev headed : tie.After-put-conditions → tie.After-put-head
 headed q = q .before .before .before .before .before .before .before .before
@@ -36,6 +36,9 @@ was-read s = read-so (s .pre .0)
 prepare-order-requires : tie.Need-prepare-order-requires
 prepare-order-requires c κs =
     let s = c .before .before .before .before .before .before .before .before in (was-read s, s .pre .1 .0, s .pre .1 .1)
+
+slot-counts-requires : tie.Need-slot-counts-requires
+slot-counts-requires c κs = search needs
 
 put-head-requires : tie.Need-put-head-requires
 put-head-requires c κs = search needs
@@ -76,7 +79,7 @@ report-of-requires c κs =
     let h = headed q in
     let e = q .put-conditions .ensures in
     let r = t .put-end .ensures in
-    counts-said (start (prepared h) .pre .0) (e .1 .1) (h .put-head .ensures) (e .0) (r .0) (ap (λ (f : segment.Node). f .depth) (r .1))
+    counts-said (start (prepared h) .pre .0) (e .1 .1) (h .before .slot-counts .ensures) (h .put-head .ensures) (e .0) (r .0) (ap (λ (f : segment.Node). f .depth) (r .1))
 
 same-length : tie.Need-same-length
 same-length c =
@@ -105,8 +108,8 @@ returns c =
     let e = q .put-conditions .ensures in
     let r = t .put-end .ensures in
     let deep = ap (λ (f : segment.Node). f .depth) (r .1) in (
-      c .report-of .ensures ∙ answers-said b (e .1 .1) (h .put-head .ensures) (e .0) (r .0) deep,
-      leaves-said b (e .1 .1) (h .put-head .ensures) (e .0) (r .0) deep,
+      c .report-of .ensures ∙ answers-said b (e .1 .1) (h .before .slot-counts .ensures) (h .put-head .ensures) (e .0) (r .0) deep,
+      leaves-said b (e .1 .1) (h .before .slot-counts .ensures) (h .put-head .ensures) (e .0) (r .0) deep,
     )
 
 pub write-table-spec : {M : Type 1} → statement M
@@ -114,6 +117,7 @@ write-table-spec =
     tie.close
     (tie.spec
     prepare-order-requires
+    slot-counts-requires
     put-head-requires
     put-conditions-requires
     put-end-requires

@@ -1,23 +1,23 @@
--- `card::read_conditions` meets its contract. The invariant is `AddsUp`: the digits and weights of the k records read so far,
--- with those of the records that are left to read, give the whole answer. The measure is what is left of count.
+-- `card::read_conditions` meets its contract. The invariant is `AddsUp`: the sums over the k records read so far,
+-- with those over the records that are left to read, give the whole answer. The measure is what is left of count.
 -- Assumes nothing.
 use mathlib.Core.Path.{sym, ap, _∙_}
-use Prim.Native.Nat.{_+_, _-_, _*_, _≤_}
+use Prim.Native.Nat.{_+_, _-_, _*_, _≤_, max}
 use native.Mathlib.Omega.{arith}
 use borrow.Author.Needs.{needs}
 use lib.ListN.{length}
 use Rattle.circuit.proofs.Records.{lent-whole}
 use Rattle.card.specs.Parts.{formIs, recordIs, recordAnswer, readSums}
-use Rattle.card.proofs.Conditions.{AddsUp, starts, finishes, refuses, adds, record-within}
+use Rattle.card.proofs.Conditions.{AddsUp, starts, finishes, refuses, left-few, adds, record-within}
 use Rattle.card.proofs.read_conditions.Statement.{statement}
 use Rattle.card.proofs.read_conditions.Tie as tie
 
 abbrev Inv-loop : tie.InvT-loop
-Inv-loop records form prime count size slots₀ weights₀ k₀ slots weights k =
-    AddsUp (formIs form) prime records count k slots weights (readSums (formIs form) prime count records)
+Inv-loop records form prime count size slots₀ weights₀ left₀ k₀ slots weights left k =
+    AddsUp (formIs form) prime records count k (record { slots = slots; weights = weights; left = left }) (readSums (formIs form) prime count records)
 
 abbrev μ-loop : tie.MeasureT-loop
-μ-loop records form prime count size slots₀ weights₀ k₀ slots weights k = count - k
+μ-loop records form prime count size slots₀ weights₀ left₀ k₀ slots weights left k = count - k
 
 -- where the function began
 abbrev start : tie.At-loop Inv-loop μ-loop → tie.Start Inv-loop μ-loop
@@ -61,19 +61,19 @@ read-record-requires c κs =
 enum-known-condition : tie.Need-enum-known-condition Inv-loop μ-loop
 enum-known-condition c = search needs
 
--- what is known once the record's digits and weight are added
+-- what is known once the record is added
 after : (c : tie.After-known-told Inv-loop μ-loop) → (
     let r = c .before .before .before in
     let l = r .before .before .before in
     let a = start l .args in
     let own = c .before .condition .given .0 .0 in
-    Inv-loop (a .records .now) (a .form) (a .prime) (a .count) (l .before .record-size .result) 0 0 0
-    (l .loop .slots + own .digits) (l .loop .weights + own .weight) (l .loop .k + 1)
+    Inv-loop (a .records .now) (a .form) (a .prime) (a .count) (l .before .record-size .result) 0 0 0 0
+    (l .loop .slots + own .digits) (l .loop .weights + own .weight) (max (l .loop .left) (own .left + own .digits)) (l .loop .k + 1)
     )
 after c =
     let r = c .before .before .before in
     let l = r .before .before .before in
-    adds _ _ _ _ _ _ _ _ _ (l .before .record-size .ensures) (r .before .before .loop-test .taken) (l .loop .inv)
+    adds _ _ _ _ _ _ _ _ (l .before .record-size .ensures) (r .before .before .loop-test .taken) (l .loop .inv)
     (recordIs (c .before .condition .given .0 .0)) (sym (ap recordAnswer (c .before .condition .given .1)) ∙ r .read-record .ensures)
     (omega (arith, c .known-told .given))
 
@@ -92,6 +92,14 @@ add-weights c =
     let l = c .before .before .before .before .before .before .before .before in
     omega (arith, told .few, told .most, start l .pre .0)
 
+count-left-requires : tie.Need-count-left-requires Inv-loop μ-loop
+count-left-requires c κs =
+    let told = c .before .before .before in
+    let r = told .before .before in
+    let l = r .before .before .before in
+    left-few _ _ _ _ _ _ _ _ (l .before .record-size .ensures) (r .before .before .loop-test .taken) (l .loop .inv)
+    (recordIs (told .condition .given .0 .0)) (sym (ap recordAnswer (told .condition .given .1)) ∙ r .read-record .ensures) (start l .pre .0)
+
 enum-known-why : tie.Need-enum-known-why Inv-loop μ-loop
 enum-known-why c = search needs
 
@@ -99,7 +107,7 @@ returns : tie.Need-returns Inv-loop μ-loop
 returns c =
     let r = c .before .before .before in
     let l = r .before .before .before in
-    refuses _ _ _ _ _ _ _ _ _ (l .before .record-size .ensures) (r .before .before .loop-test .taken) (l .loop .inv) _
+    refuses _ _ _ _ _ _ _ _ (l .before .record-size .ensures) (r .before .before .loop-test .taken) (l .loop .inv) _
     (sym (ap recordAnswer (c .before .why .given .1)) ∙ r .read-record .ensures)
 
 add-k : tie.Need-add-k Inv-loop μ-loop
@@ -109,10 +117,10 @@ loop-less : tie.Need-loop-less Inv-loop μ-loop
 loop-less c = search needs
 
 loop-again : tie.Need-loop-again Inv-loop μ-loop
-loop-again c = after (c .before .before)
+loop-again c = rw (c .count-left .ensures) (after (c .before .before .before))
 
 returns-2 : tie.Need-returns-2 Inv-loop μ-loop
-returns-2 c = finishes _ _ _ _ _ _ _ _ (c .loop-test .left) (c .before .loop .inv)
+returns-2 c = finishes _ _ _ _ _ _ _ (c .loop-test .left) (c .before .loop .inv)
 
 pub read-conditions-spec : {M : Type 1} → statement M
 read-conditions-spec =
@@ -131,6 +139,7 @@ read-conditions-spec =
     add-slots
     cast-weights
     add-weights
+    count-left-requires
     enum-known-why
     returns
     add-k

@@ -39,6 +39,14 @@ read-weighed-requires c κs =
     let s = c .before .before .before .before .before .before .before in
     omega (arith, s .pre, ap (λ (f : Form). recordSize (formIs f)) (c .enum-told2 .given .1))
 
+enum-told-3 : tie.Need-enum-told-3
+enum-told-3 c = search needs
+
+read-shared-requires : tie.Need-read-shared-requires
+read-shared-requires c κs =
+    let s = c .before .before .before .before .before .before .before in
+    omega (arith, s .pre, ap (λ (f : Form). recordSize (formIs f)) (c .enum-told3 .given .1))
+
 returns-2 : tie.Need-returns-2
 returns-2 c =
     let e = c .before .before in rw (wrong (e .before) ∙ e .if1 .left, c .enum-told .given .1)
@@ -46,6 +54,11 @@ returns-2 c =
 returns-3 : tie.Need-returns-3
 returns-3 c =
     let e = c .before .before .before in rw (wrong (e .before) ∙ e .if1 .left, c .before .enum-told2 .given .1) (c .read-weighed .ensures)
+
+returns-4 : tie.Need-returns-4
+returns-4 c =
+    let e = c .before .before .before in
+    rw (wrong (e .before) ∙ e .if1 .left, c .before .enum-told3 .given .1) (c .read-shared .ensures (e .before .before .before .before .before .args .prime))
 
 pub read-counted-spec : {M : Type 1} → statement M
 read-counted-spec =
@@ -58,5 +71,8 @@ read-counted-spec =
     enum-told
     enum-told-2
     read-weighed-requires
+    enum-told-3
+    read-shared-requires
     returns-2
-    returns-3)
+    returns-3
+    returns-4)

@@ -79,16 +79,19 @@ shared-slice-read-t11 : tie.Need-shared-slice-read-t11
 shared-slice-read-t11 c =
     let z = c .before .before .before in omega (arith, long z, least z)
 
+left-at-requires : tie.Need-left-at-requires
+left-at-requires c κs = long (c .before .before .before)
+
 weight-at-requires : tie.Need-weight-at-requires
-weight-at-requires c κs = long (c .before .before .before)
+weight-at-requires c κs = long (c .before .before .before .before)
 
 returns : tie.Need-returns
 returns c =
-    let q = c .before .before in
+    let q = c .before .before .before in
     let z = q .before .before in
     let s = start z in
     let own = found z in
-    let same = is-condition (formIs (s .args .head .form)) (s .args .head .prime) (s .args .slot) (place z) (s .args .card .now) (own .0) (long z) (own .2) (record { relation = q .relation-of .result; digits = _; left = _; right = _; weight = _ }) (q .relation-of .ensures) refl refl refl (c .weight-at .ensures) in
+    let same = is-condition (formIs (s .args .head .form)) (s .args .head .prime) (s .args .slot) (place z) (s .args .card .now) (own .0) (long z) (own .2) (record { relation = q .relation-of .result; digits = _; left = _; right = _; weight = _ }) (q .relation-of .ensures) refl (c .before .left-at .ensures) refl (c .weight-at .ensures) in
     own .1 ∙ ap (λ (d : Condition). d ∷ drop (s .args .k + 1) (conditionsOf (s .args .card .now))) (sym same)
 
 pub record-at-spec : {M : Type 1} → statement M
@@ -103,5 +106,6 @@ record-at-spec =
     relation-of-requires
     add-t9
     shared-slice-read-t11
+    left-at-requires
     weight-at-requires
     returns)

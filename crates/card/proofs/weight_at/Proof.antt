@@ -16,6 +16,9 @@ enum-told c = search needs
 enum-told-2 : tie.Need-enum-told-2
 enum-told-2 c = search needs
 
+enum-told-3 : tie.Need-enum-told-3
+enum-told-3 c = search needs
+
 add-result : tie.Need-add-result
 add-result c = search needs
 
@@ -33,6 +36,18 @@ returns-2 c =
     let a = t .before .before .args in
     rw (t .enum-told2 .given .1) (sym (getD-drop (a .at) (a .card .now) 4 0))
 
+returns-3 : tie.Need-returns-3
+returns-3 c = search needs
+
 pub weight-at-spec : {M : Type 1} → statement M
 weight-at-spec =
-    tie.close (tie.spec enum-told enum-told-2 add-result shared-slice-read-result returns returns-2)
+    tie.close
+    (tie.spec
+    enum-told
+    enum-told-2
+    add-result
+    shared-slice-read-result
+    enum-told-3
+    returns
+    returns-2
+    returns-3)

@@ -1,4 +1,4 @@
--- `forecast::end_gates` meets its contract: in each arm of the match the form is known, and the number is that of its gates.
+-- `forecast::end_gates` meets its contract: in each arm of the match the question is known, and the number is that of its gates.
 -- Assumes nothing.
 use mathlib.Core.Path.{refl}
 use native.Mathlib.Omega.{arith}

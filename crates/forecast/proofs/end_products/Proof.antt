@@ -1,4 +1,4 @@
--- `forecast::end_products` meets its contract: in each arm of the match the form is known, and the number is that of its products.
+-- `forecast::end_products` meets its contract: in each arm of the match the question is known, and the number is that of its products.
 -- Assumes nothing.
 use mathlib.Core.Path.{refl}
 use native.Mathlib.Omega.{arith}

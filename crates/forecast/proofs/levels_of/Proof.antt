@@ -1,4 +1,4 @@
--- `forecast::levels_of` meets its contract: in each arm of the match the form is known, and the logarithm is that of its number,
+-- `forecast::levels_of` meets its contract: in each arm of the match the question is known, and the logarithm is that of its number,
 -- which is small.
 -- Assumes nothing.
 use native.Mathlib.Omega.{arith}

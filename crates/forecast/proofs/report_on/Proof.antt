@@ -8,6 +8,9 @@ use Rattle.field.proofs.Logarithm.{clog-is-ceiling}
 use Rattle.forecast.proofs.report_on.Statement.{statement}
 use Rattle.forecast.proofs.report_on.Tie as tie
 
+question-of-requires : tie.Need-question-of-requires
+question-of-requires c κs = search needs
+
 end-gates-requires : tie.Need-end-gates-requires
 end-gates-requires c κs = search needs
 
@@ -29,14 +32,14 @@ cast-ceil-log2 c = search needs
 ceil-log2-requires : tie.Need-ceil-log2-requires
 ceil-log2-requires c κs = search needs
 
-cast-t9 : tie.Need-cast-t9
-cast-t9 c = search needs
-
 cast-t10 : tie.Need-cast-t10
 cast-t10 c = search needs
 
 cast-t11 : tie.Need-cast-t11
 cast-t11 c = search needs
+
+cast-t12 : tie.Need-cast-t12
+cast-t12 c = search needs
 
 cost-of-requires : tie.Need-cost-of-requires
 cost-of-requires c κs = search needs
@@ -45,10 +48,10 @@ levels-of-requires : tie.Need-levels-of-requires
 levels-of-requires c κs = search needs
 
 -- the levels of a digit and those above it
-add-t14 : tie.Need-add-t14
-add-t14 c =
+add-t15 : tie.Need-add-t15
+add-t15 c =
     let f = c .before .before .before in
-    let s = f .before .before .before .before .before .before in
+    let s = f .before .before .before .before .before .before .before in
     let low = clog-is-ceiling (s .args .head .prime - 1) 16 .0 (omega (arith, s .pre .0 .1)) in
     omega (arith, f .ceil-log2 .ensures, low, c .levels-of .ensures .1)
 
@@ -57,6 +60,7 @@ returns c =
     let f = c .before .before .before in
     let m = f .before .before .before in
     rw (
+      ← m .before .before .before .question-of .ensures,
       ← m .before .before .end-gates .ensures .0,
       ← m .end-products .ensures .0,
       ← f .ceil-log2 .ensures,
@@ -68,6 +72,7 @@ pub report-on-spec : {M : Type 1} → statement M
 report-on-spec =
     tie.close
     (tie.spec
+    question-of-requires
     end-gates-requires
     add-gates
     end-products-requires
@@ -75,10 +80,10 @@ report-on-spec =
     sub-ceil-log2
     cast-ceil-log2
     ceil-log2-requires
-    cast-t9
     cast-t10
     cast-t11
+    cast-t12
     cost-of-requires
     levels-of-requires
-    add-t14
+    add-t15
     returns)

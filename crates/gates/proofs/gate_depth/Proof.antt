@@ -1,4 +1,5 @@
 -- `gates::gate_depth` meets its contract: in each arm the kind is a number, at which reading the fields computes, and the function called says the gate's depth.
+-- Nothing here names the functions that say the slot counts, so that the other side's count fails at the fact itself, in `returns` or `returns-2`.
 -- Assumes nothing.
 use mathlib.Core.Path.{_∙_}
 use borrow.Author.Needs.{needs}
@@ -7,14 +8,8 @@ use Rattle.gates.proofs.GateDepth.{left-depth, right-depth, add-depth, 
 use Rattle.gates.proofs.gate_depth.Statement.{statement}
 use Rattle.gates.proofs.gate_depth.Tie as tie
 
-wide-requires : tie.Need-wide-requires
-wide-requires c κs = search needs
-
 slot-gate-requires : tie.Need-slot-gate-requires
 slot-gate-requires c κs = search needs
-
-wide-requires-2 : tie.Need-wide-requires-2
-wide-requires-2 c κs = search needs
 
 slot-gate-requires-2 : tie.Need-slot-gate-requires-2
 slot-gate-requires-2 c κs = search needs
@@ -37,12 +32,12 @@ mul-gate-requires c κs = search needs
 returns : tie.Need-returns
 returns c =
     let s = c .before .before .before .before in
-    rw (c .before .before .match .keys1) (rw (c .before .wide .ensures .0) at (c .slot-gate .ensures) ∙ left-depth (headIs (s .args .head)) (s .args .earlier .now) (s .args .a) (s .args .b))
+    rw (c .before .before .match .keys1) (c .slot-gate .ensures ∙ left-depth (headIs (s .args .head)) (s .args .earlier .now) (s .args .a) (s .args .b) _ (search needs))
 
 returns-2 : tie.Need-returns-2
 returns-2 c =
     let s = c .before .before .before .before in
-    rw (c .before .before .match .keys2) (rw (c .before .wide2 .ensures .0) at (c .slot-gate2 .ensures) ∙ right-depth (headIs (s .args .head)) (s .args .earlier .now) (s .args .a) (s .args .b))
+    rw (c .before .before .match .keys2) (c .slot-gate2 .ensures ∙ right-depth (headIs (s .args .head)) (s .args .earlier .now) (s .args .a) (s .args .b) _ (search needs))
 
 returns-3 : tie.Need-returns-3
 returns-3 c =
@@ -78,9 +73,9 @@ pub gate-depth-spec : {M : Type 1} → statement M
 gate-depth-spec =
     tie.close
     (tie.spec
-    wide-requires
+    (λ c κs. search needs)
     slot-gate-requires
-    wide-requires-2
+    (λ c κs. search needs)
     slot-gate-requires-2
     sum-gate-requires
     sum-gate-requires-2

@@ -1,89 +1,94 @@
 -- `reader::read_head` meets its contract: at each return the tests on the way pick the line of `readHead`.
 -- Assumes nothing.
 use mathlib.Core.Path.{_≡_, sym, ap, _∙_}
-use mathlib.Core.Bool.{true, false, not}
+use mathlib.Core.Bool.{true, false, _&&_}
 use mathlib.Core.List.{List}
 use Prim.Native.Nat.{ℕ}
 use borrow.Author.Needs.{needs}
 use borrow.Author.Tests.{not-true, not-false, lt-ltb, le-ltb}
-use lib.Dec.{ltb, eqb}
+use lib.Dec.{ltb}
 use lib.ListN.{length}
+use Rattle.answer.specs.Outcome.{accepted}
 use Rattle.field.specs.Primes.{listed}
-use Rattle.digits.specs.Number.{wrongCount}
-use Rattle.field.proofs.Tests.{zero-only}
 use Rattle.circuit.specs.Bytes.{byte, wrongMark}
-use Rattle.circuit.specs.Reading.{countOf}
-use Rattle.circuit.specs.Table.{headMark, wrongWeight, wrongGateCount}
+use Rattle.circuit.specs.Reading.{slotsAt, countOf}
+use Rattle.circuit.specs.Table.{bothMark, eachMark, wrongSlots, wrongSpare, wrongWeight, wrongGateCount}
 use Rattle.reader.proofs.read_head.Statement.{statement}
 use Rattle.reader.proofs.read_head.Tie as tie
 
--- the bytes, at the first test that needs them and at each later one
-abbrev bytes : tie.Else1 → List ℕ
-bytes c = c .before .before .args .table .now
+-- ---- what each test says of the bytes
 
-abbrev first : tie.Else2 → tie.Else1
-first c = c .before .before
+least : (c : tie.Else1) → ltb (length (c .before .before .args .table .now)) 8 ≡ false
+least c = le-ltb _ _ (c .if1 .left)
 
-abbrev second : tie.After-is-listed → tie.Else2
-second c = c .before .before .before .before
+abbrev bytes : tie.After-lacks-head-mark → List ℕ
+bytes c = c .before .before .before .args .table .now
 
+mark : (c : tie.After-lacks-head-mark) → (wrongMark bothMark (bytes c) && wrongMark eachMark (bytes c)) ≡ c .lacks-head-mark .result
+mark c = sym (c .lacks-head-mark .ensures)
+
+-- from where the prime was tested back to where the head was read
+abbrev read : tie.After-is-listed → tie.After-head-at
+read c = c .before .before .before .before .before
+
+abbrev marked : tie.After-is-listed → tie.After-lacks-head-mark
+marked c = read c .before .before
+
+prime : (c : tie.After-is-listed) → listed (byte (bytes (marked c)) 2) ≡ c .is-listed .result
+prime c = ap (λ h. listed (h .prime)) (sym (read c .head-at .ensures)) ∙ sym (c .is-listed .ensures)
+
+slots : (c : tie.After-is-listed) → wrongSlots (slotsAt (bytes (marked c))) ≡ c .before .before .before .slots-outside .result
+slots c = ap (λ h. wrongSlots (h .slots)) (sym (read c .head-at .ensures)) ∙ sym (c .before .before .before .slots-outside .ensures)
+
+spare : (c : tie.After-is-listed) → wrongSpare (slotsAt (bytes (marked c))) (byte (bytes (marked c)) 5) ≡ c .before .spare-outside .result
+spare c =
+    ap (λ h. wrongSpare (h .slots) (byte (bytes (marked c)) 5)) (sym (read c .head-at .ensures)) ∙ sym (c .before .spare-outside .ensures)
+
+-- from the test of the weight back to that of the prime, and from that of the gate count to that of the weight
 abbrev third : tie.After-outside → tie.After-is-listed
 third c = c .before .before .before
 
 abbrev fourth : tie.After-outside2 → tie.After-outside
-fourth c = c .before .before .before
+fourth c = c .before .before .before .before
 
-abbrev fifth : tie.After-outside3 → tie.After-outside2
-fifth c = c .before .before .before
-
-abbrev sixth : tie.After-outside4 → tie.After-outside3
-sixth c = c .before .before
-
--- ---- what each test says of the bytes
-
-least : (c : tie.Else1) → ltb (length (bytes c)) 8 ≡ false
-least c = le-ltb _ _ (c .if1 .left)
-
-mark : (c : tie.After-lacks-mark) → wrongMark headMark (bytes (c .before)) ≡ c .lacks-mark .result
-mark c = sym (c .lacks-mark .ensures)
-
-prime : (c : tie.After-is-listed) → listed (byte (bytes (first (second c))) 2) ≡ c .is-listed .result
-prime c =
-    ap (λ h. listed (h .prime)) (sym (c .before .before .before .head-at .ensures)) ∙ sym (c .is-listed .ensures)
-
-weight : (c : tie.After-outside) → wrongWeight (byte (bytes (first (second (third c)))) 3) ≡ c .outside .result
+weight : (c : tie.After-outside) → wrongWeight (byte (bytes (marked (third c))) 3) ≡ c .outside .result
 weight c =
-    ap (λ h. wrongWeight (h .weight)) (sym (third c .before .before .before .head-at .ensures))
+    ap (λ h. wrongWeight (h .weight)) (sym (read (third c) .head-at .ensures))
     ∙ ap wrongWeight (sym (c .before .wide .ensures .0)) ∙ sym (c .outside .ensures)
 
-slots : (c : tie.After-outside2) → wrongCount (byte (bytes (first (second (third (fourth c))))) 4) ≡ c .outside2 .result
-slots c =
-    ap (λ h. wrongCount (h .slots)) (sym (third (fourth c) .before .before .before .head-at .ensures))
-    ∙ ap wrongCount (sym (c .before .wide2 .ensures .0)) ∙ sym (c .outside2 .ensures)
+-- the gate count, as the code has it
+gates : (c : tie.After-outside2)
+    → countOf (bytes (marked (third (fourth c)))) ≡ third (fourth c) .before .before .before .before .u16-at .result
+gates c = sym (third (fourth c) .before .before .before .before .u16-at .ensures .0)
 
-spare : (c : tie.After-outside3) → not (eqb (byte (bytes (first (second (third (fourth (fifth c)))))) 5) 0) ≡ c .outside3 .result
-spare c = rw zero-only (sym (rw (c .before .wide3 .ensures .0) at (c .outside3 .ensures)))
+count : (c : tie.After-outside2) → wrongGateCount (countOf (bytes (marked (third (fourth c))))) ≡ c .outside2 .result
+count c = ap wrongGateCount (gates c) ∙ sym (c .outside2 .ensures)
 
-count : (c : tie.After-outside4) → wrongGateCount (countOf (bytes (first (second (third (fourth (fifth (sixth c)))))))) ≡ c .outside4 .result
-count c =
-    ap wrongGateCount (sym (third (fourth (fifth (sixth c))) .before .u16-at .ensures .0)) ∙ sym (c .outside4 .ensures)
+-- ---- rules that are kept
 
--- the first four rules are kept
+-- the first four
 abbrev Kept : List ℕ → Type 0
 Kept bytes =
-    (ltb (length bytes) 8 ≡ false) × (wrongMark headMark bytes ≡ false) × (listed (byte bytes 2) ≡ true) × (wrongWeight (byte bytes 3) ≡ false)
+    (ltb (length bytes) 8 ≡ false) × ((wrongMark bothMark bytes && wrongMark eachMark bytes) ≡ false)
+    × (listed (byte bytes 2) ≡ true) × (wrongWeight (byte bytes 3) ≡ false)
 
-kept : (c : tie.Else4) → Kept (bytes (first (second (third (c .before)))))
+kept : (c : tie.Else4) → Kept (bytes (marked (third (c .before))))
 kept c =
     let d = c .before .before .before in
-    let e = second (d .before) in
-    (least (first e), mark (e .before) ∙ e .if2 .left, prime (d .before) ∙ not-false _ (d .if3 .left), weight (c .before) ∙ c .if4 .left)
+    let m = marked (d .before) in
+    (least (m .before), mark m ∙ read (d .before) .before .if2 .left, prime (d .before) ∙ not-false _ (d .if3 .left), weight (c .before) ∙ c .if4 .left)
+
+-- and the two of the slots
+kept-slots : (c : tie.Else6)
+    → let b = bytes (marked (third (c .before .before .before))) in (wrongSlots (slotsAt b) ≡ false) × (wrongSpare (slotsAt b) (byte b 5) ≡ false)
+kept-slots c =
+    let d = third (c .before .before .before) in (slots d ∙ c .before .if5 .left, spare d ∙ c .if6 .left)
 
 returns : tie.Need-returns
 returns c = rw (lt-ltb _ _ (c .if1 .taken))
 
-lacks-mark-requires : tie.Need-lacks-mark-requires
-lacks-mark-requires c κs = search needs
+lacks-head-mark-requires : tie.Need-lacks-head-mark-requires
+lacks-head-mark-requires c κs = search needs
 
 returns-2 : tie.Need-returns-2
 returns-2 c = rw (least (c .before .before), mark (c .before) ∙ c .if2 .taken)
@@ -91,19 +96,25 @@ returns-2 c = rw (least (c .before .before), mark (c .before) ∙ c .if2 .taken)
 head-at-requires : tie.Need-head-at-requires
 head-at-requires c κs = search needs
 
-shared-slice-read-spare : tie.Need-shared-slice-read-spare
-shared-slice-read-spare c = search needs
-
 u16-at-requires : tie.Need-u16-at-requires
 u16-at-requires c κs = search needs
+
+slots-outside-requires : tie.Need-slots-outside-requires
+slots-outside-requires c κs = search needs
+
+shared-slice-read-spare-outside : tie.Need-shared-slice-read-spare-outside
+shared-slice-read-spare-outside c = search needs
+
+spare-outside-requires : tie.Need-spare-outside-requires
+spare-outside-requires c κs = search needs
 
 is-listed-requires : tie.Need-is-listed-requires
 is-listed-requires c κs = search needs
 
 returns-3 : tie.Need-returns-3
 returns-3 c =
-    let e = second (c .before) in
-    rw (least (first e), mark (e .before) ∙ e .if2 .left, prime (c .before) ∙ not-true _ (c .if3 .taken))
+    let m = marked (c .before) in
+    rw (least (m .before), mark m ∙ read (c .before) .before .if2 .left, prime (c .before) ∙ not-true _ (c .if3 .taken))
 
 wide-requires : tie.Need-wide-requires
 wide-requires c κs = search needs
@@ -114,40 +125,28 @@ outside-requires c κs = search needs
 returns-4 : tie.Need-returns-4
 returns-4 c =
     let d = c .before .before .before in
-    let e = second (d .before) in
-    rw (least (first e), mark (e .before) ∙ e .if2 .left, prime (d .before) ∙ not-false _ (d .if3 .left), weight (c .before) ∙ c .if4 .taken)
+    let m = marked (d .before) in
+    rw (least (m .before), mark m ∙ read (d .before) .before .if2 .left, prime (d .before) ∙ not-false _ (d .if3 .left), weight (c .before) ∙ c .if4 .taken)
 
-wide-requires-2 : tie.Need-wide-requires-2
-wide-requires-2 c κs = search needs
+returns-5 : tie.Need-returns-5
+returns-5 c =
+    let k = kept (c .before) in rw (k .0, k .1, k .2, k .3, slots (third (c .before .before)) ∙ c .if5 .taken)
+
+returns-6 : tie.Need-returns-6
+returns-6 c =
+    let e = c .before .before in
+    let k = kept e in
+    rw (k .0, k .1, k .2, k .3, slots (third (e .before)) ∙ c .before .if5 .left, spare (third (e .before)) ∙ c .if6 .taken)
 
 outside-requires-2 : tie.Need-outside-requires-2
 outside-requires-2 c κs = search needs
 
-returns-5 : tie.Need-returns-5
-returns-5 c =
-    let k = kept (c .before .before .before) in rw (k .0, k .1, k .2, k .3, slots (c .before) ∙ c .if5 .taken)
-
-returns-6 : tie.Need-returns-6
-returns-6 c =
-    let e = c .before .before .before in
-    let k = kept (e .before .before .before) in
-    rw (k .0, k .1, k .2, k .3, slots (e .before) ∙ e .if5 .left, spare (c .before) ∙ c .if6 .taken)
-
-wide-requires-3 : tie.Need-wide-requires-3
-wide-requires-3 c κs = search needs
-
-outside-requires-3 : tie.Need-outside-requires-3
-outside-requires-3 c κs = search needs
-
-outside-requires-4 : tie.Need-outside-requires-4
-outside-requires-4 c κs = search needs
-
 returns-7 : tie.Need-returns-7
 returns-7 c =
     let f = c .before .before in
-    let e = f .before .before .before in
-    let k = kept (e .before .before .before) in
-    rw (k .0, k .1, k .2, k .3, slots (e .before) ∙ e .if5 .left, spare (f .before) ∙ f .if6 .left, count (c .before) ∙ c .if7 .taken)
+    let k = kept (f .before .before) in
+    let s = kept-slots f in
+    rw (k .0, k .1, k .2, k .3, s .0, s .1, count (c .before) ∙ c .if7 .taken)
 
 add-if8 : tie.Need-add-if8
 add-if8 c = search needs
@@ -159,45 +158,39 @@ returns-8 : tie.Need-returns-8
 returns-8 c =
     let g = c .before in
     let f = g .before .before in
-    let e = f .before .before .before in
-    let k = kept (e .before .before .before) in
-    let short = lt-ltb _ _ (c .if8 .taken) in
-    rw (k .0, k .1, k .2, k .3, slots (e .before) ∙ e .if5 .left, spare (f .before) ∙ f .if6 .left, count (g .before) ∙ g .if7 .left)
-    (rw (← third (fourth (e .before)) .before .u16-at .ensures .0, short))
+    let k = kept (f .before .before) in
+    let s = kept-slots f in
+    rw (k .0, k .1, k .2, k .3, s .0, s .1, count (g .before) ∙ g .if7 .left, gates (g .before), lt-ltb _ _ (c .if8 .taken))
 
 returns-9 : tie.Need-returns-9
 returns-9 c =
     let g = c .before in
     let f = g .before .before in
-    let e = f .before .before .before in
-    let k = kept (e .before .before .before) in
-    let room = le-ltb _ _ (c .if8 .left) in
-    let head = third (fourth (e .before)) .before .before .before .head-at .ensures in
-    rw (k .0, k .1, k .2, k .3, slots (e .before) ∙ e .if5 .left, spare (f .before) ∙ f .if6 .left, count (g .before) ∙ g .if7 .left)
-    (rw (← third (fourth (e .before)) .before .u16-at .ensures .0, room, head))
+    let k = kept (f .before .before) in
+    let s = kept-slots f in
+    rw (k .0, k .1, k .2, k .3, s .0, s .1, count (g .before) ∙ g .if7 .left, gates (g .before), le-ltb _ _ (c .if8 .left))
+    (ap accepted (read (third (fourth (g .before))) .head-at .ensures))
 
 pub read-head-spec : {M : Type 1} → statement M
 read-head-spec =
     tie.close
     (tie.spec
     returns
-    lacks-mark-requires
+    lacks-head-mark-requires
     returns-2
     head-at-requires
-    shared-slice-read-spare
     u16-at-requires
+    slots-outside-requires
+    shared-slice-read-spare-outside
+    spare-outside-requires
     is-listed-requires
     returns-3
     wide-requires
     outside-requires
     returns-4
-    wide-requires-2
-    outside-requires-2
     returns-5
-    wide-requires-3
-    outside-requires-3
     returns-6
-    outside-requires-4
+    outside-requires-2
     returns-7
     add-if8
     mul-if8

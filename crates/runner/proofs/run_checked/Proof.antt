@@ -17,22 +17,29 @@ head-at-requires : tie.Need-head-at-requires
 head-at-requires c κs =
     let s = c .before .before .before .before in omega (arith, long (s .args .table .now) (s .args .count) (s .pre))
 
+left-slots-requires : tie.Need-left-slots-requires
+left-slots-requires c κs = search needs
+
+right-slots-requires : tie.Need-right-slots-requires
+right-slots-requires c κs = search needs
+
 wide-requires : tie.Need-wide-requires
 wide-requires c κs = search needs
 
-wide-requires-2 : tie.Need-wide-requires-2
-wide-requires-2 c κs = search needs
+-- the table that was read, where its slot counts and its prime are known
+abbrev start : tie.After-wide → tie.Start
+start c = c .before .before .before .before .before .before .before .before
 
--- the table that was read, where its slot count and its prime are known
-abbrev start : tie.After-wide2 → tie.Start
-start c = c .before .before .before .before .before .before .before
-
-table : (c : tie.After-wide2)
+table : (c : tie.After-wide)
     → let s = start c .args in
-    Checked (s .table .now) (headIs (c .before .before .head-at .result)) (s .count) (c .before .wide .result) (c .wide2 .result)
+    let r = c .before in
+    let l = r .before in
+    Checked (s .table .now) (headIs (l .before .head-at .result)) (s .count) (l .left-slots .result) (r .right-slots .result) (c .wide .result)
 table c =
     let s = start c in
-    checked (s .args .table .now) _ (s .pre) _ _ _ (c .before .before .head-at .ensures) (c .before .wide .ensures .0) (c .wide2 .ensures .0)
+    let r = c .before in
+    let l = r .before in
+    checked (s .args .table .now) _ (s .pre) _ _ _ _ (l .before .head-at .ensures) (l .left-slots .ensures) (r .right-slots .ensures) (c .wide .ensures .0)
 
 returns : tie.Need-returns
 returns c =
@@ -57,7 +64,7 @@ returns-3 c =
     (sym (c .before .are-below .ensures) ∙ not-true _ (c .if3 .taken)))
 
 -- the left values are below the prime, in what follows their test
-left-below : (c : tie.Else3) → let e = c .before .before .before .before in allBelow (e .wide2 .result) (start e .args .left .now) ≡ true
+left-below : (c : tie.Else3) → let e = c .before .before .before .before in allBelow (e .wide .result) (start e .args .left .now) ≡ true
 left-below c = sym (c .before .are-below .ensures) ∙ not-false _ (c .if3 .left)
 
 are-below-requires-2 : tie.Need-are-below-requires-2
@@ -74,7 +81,7 @@ returns-4 c =
 
 -- and the right ones
 right-below : (c : tie.Else4)
-    → let e = c .before .before .before .before .before .before in allBelow (e .wide2 .result) (start e .args .right .now) ≡ true
+    → let e = c .before .before .before .before .before .before in allBelow (e .wide .result) (start e .args .right .now) ≡ true
 right-below c = sym (c .before .are-below2 .ensures) ∙ not-false _ (c .if4 .left)
 
 returns-5 : tie.Need-returns-5
@@ -92,7 +99,7 @@ run-gates-requires c κs =
     let f = c .before .before .before .before .before .before in
     let e = f .before in
     let t = table (e .before) in
-    (t .room, c .before .if5 .left, record { value = t .gates; accept = t .all; lefts = e .if1 .left ∙ t .slots-are; rights = f .if2 .left ∙ t .slots-are })
+    (t .room, c .before .if5 .left, record { value = t .gates; accept = t .all; lefts = e .if1 .left ∙ t .lefts-are; rights = f .if2 .left ∙ t .rights-are })
 
 sub-output : tie.Need-sub-output
 sub-output c = table (c .before .before .before .before .before .before .before .before .before .before .before) .some
@@ -121,8 +128,9 @@ run-checked-spec =
     tie.close
     (tie.spec
     head-at-requires
+    left-slots-requires
+    right-slots-requires
     wide-requires
-    wide-requires-2
     returns
     returns-2
     are-below-requires

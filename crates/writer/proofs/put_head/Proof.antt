@@ -1,68 +1,44 @@
--- `writer::put_head` meets its contract: eight stores from the first byte on.
+-- `writer::put_head` meets its contract: in each arm of the match the slot counts are known, and the bytes that are stored are those of `headBytes`.
 -- Assumes nothing.
-use native.Mathlib.Omega.{arith}
-use lib.ListN.{length-set}
 use borrow.Author.Needs.{needs}
 use Rattle.writer.proofs.put_head.Statement.{statement}
 use Rattle.writer.proofs.put_head.Tie as tie
 
-array-read-table : tie.Need-array-read-table
-array-read-table c = search needs
+enum-known-slots : tie.Need-enum-known-slots
+enum-known-slots c = search needs
 
-slice-write-table : tie.Need-slice-write-table
-slice-write-table c = search needs
+put-head-bytes-requires : tie.Need-put-head-bytes-requires
+put-head-bytes-requires c κs = search needs
 
-array-read-table-2 : tie.Need-array-read-table-2
-array-read-table-2 c = search needs
+enum-known-slots-2 : tie.Need-enum-known-slots-2
+enum-known-slots-2 c = search needs
 
-slice-write-table-2 : tie.Need-slice-write-table-2
-slice-write-table-2 c = simp length-set (omega arith)
-
-slice-write-table-3 : tie.Need-slice-write-table-3
-slice-write-table-3 c = simp length-set (omega arith)
-
-slice-write-table-4 : tie.Need-slice-write-table-4
-slice-write-table-4 c = simp length-set (omega arith)
-
-slice-write-table-5 : tie.Need-slice-write-table-5
-slice-write-table-5 c = simp length-set (omega arith)
-
-slice-write-table-6 : tie.Need-slice-write-table-6
-slice-write-table-6 c = simp length-set (omega arith)
-
-cast-table : tie.Need-cast-table
-cast-table c = search needs
-
-slice-write-table-7 : tie.Need-slice-write-table-7
-slice-write-table-7 c = simp length-set (omega arith)
-
-cast-table-2 : tie.Need-cast-table-2
-cast-table-2 c = search needs
-
-slice-write-table-8 : tie.Need-slice-write-table-8
-slice-write-table-8 c = simp length-set (omega arith)
+put-head-bytes-requires-2 : tie.Need-put-head-bytes-requires-2
+put-head-bytes-requires-2 c κs = search needs
 
 same-length : tie.Need-same-length
-same-length c = simp length-set
+same-length c = search needs
 
 returns : tie.Need-returns
-returns c = search needs
+returns c =
+    let call = c .before .before in rw (call .before .before .before .slots .given .1) (call .put-head-bytes .ensures)
+
+same-length-2 : tie.Need-same-length-2
+same-length-2 c = search needs
+
+returns-2 : tie.Need-returns-2
+returns-2 c =
+    let call = c .before .before in rw (call .before .before .before .slots2 .given .1) (call .put-head-bytes2 .ensures)
 
 pub put-head-spec : {M : Type 1} → statement M
 put-head-spec =
     tie.close
     (tie.spec
-    array-read-table
-    slice-write-table
-    array-read-table-2
-    slice-write-table-2
-    slice-write-table-3
-    slice-write-table-4
-    slice-write-table-5
-    slice-write-table-6
-    cast-table
-    slice-write-table-7
-    cast-table-2
-    slice-write-table-8
+    enum-known-slots
+    put-head-bytes-requires
+    enum-known-slots-2
+    put-head-bytes-requires-2
     same-length
-    returns)
+    returns
+    same-length-2
+    returns-2)
