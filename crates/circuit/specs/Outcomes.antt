@@ -22,7 +22,8 @@ abbrev pub trimming : List ℕ → List ℕ
 trimming bytes = onAnswer (checking bytes) (λ number. []) (λ told. take (8 * (told .gates + 1)) bytes)
 
 -- "18 left or right list not N long, 19 a value of p or more, 20 work buffer under G.
--- The first G work bytes then hold the gate values, later ones are kept; the answer is the output."
+-- The first G work bytes then hold the gate values, later ones are kept; the answer is the output.";
+-- "17 and 18 read each side against its own count" (document 02, E6)
 abbrev pub runningTable : List ℕ → List ℕ → List ℕ → Table → Outcome ℕ
 runningTable left right work table =
     let p = table .head .prime in

@@ -152,7 +152,7 @@ fn conditions_in_turn(script: &mut Script) {
 /// Breaks one rule of a card.
 pub type Break = fn(&mut Vec<u8>);
 
-/// The rules of a head, of either form.
+/// The rules of a head, of any form.
 const HEAD_RULES: [Break; 7] = [
     |card| card[0] ^= 1,
     |card| card[1] ^= 0x40,
