@@ -152,6 +152,26 @@ fn conditions_in_turn(script: &mut Script) {
 /// Breaks one rule of a card.
 pub type Break = fn(&mut Vec<u8>);
 
+/// The places in a record of six bytes of mark, relation, n, what a form has after
+/// it, and spare.
+const FIELDS: [usize; 5] = [1, 2, 3, 4, 5];
+
+/// An earlier record's last rule goes before a later one's first: each field of the
+/// one, of this wrong byte, against each of the other, of a good card whose records
+/// have six bytes.
+pub fn each_field_in_turn(script: &mut Script, good: &[u8], pairs: &[(usize, usize)], wrong: u8) {
+    for &(first, second) in pairs {
+        for earlier in FIELDS {
+            for later in FIELDS {
+                let mut card = good.to_vec();
+                card[6 + 6 * first + earlier] = wrong;
+                card[6 + 6 * second + later] = 0xFF;
+                script.forecast(&card);
+            }
+        }
+    }
+}
+
 /// The rules of a head, of any form.
 const HEAD_RULES: [Break; 7] = [
     |card| card[0] ^= 1,

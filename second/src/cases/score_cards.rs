@@ -1,6 +1,9 @@
 //! Score cards: what Forecast and Build answer and turn away.
 
-use super::cards::{bench_in_rooms, both, each_in_rooms, each_pair_broken, mend, mend_head, Break};
+use super::cards::{
+    bench_in_rooms, both, each_field_in_turn, each_in_rooms, each_pair_broken, mend, mend_head,
+    Break,
+};
 use super::writer::Script;
 use super::{SCORE_BENCH, SOME_PRIMES};
 use crate::card::{card_bytes, score_card_bytes};
@@ -50,22 +53,9 @@ fn card_mended_one_rule_at_a_time(script: &mut Script) {
     script.build(8 * gates + 7, &card);
 }
 
-/// The places of mark, relation, n, weight and spare in a record.
-const FIELDS: [usize; 5] = [1, 2, 3, 4, 5];
-
-/// An earlier record's last rule goes before a later one's first.
 fn records_in_turn(script: &mut Script) {
     let good = score_card_bytes(5, 60, &[(1, 1, 1), (5, 2, 1), (6, 3, 2)]);
-    for (first, second) in [(0, 1), (0, 2), (1, 2)] {
-        for earlier in FIELDS {
-            for later in FIELDS {
-                let mut card = good.clone();
-                card[6 + 6 * first + earlier] = 0x52;
-                card[6 + 6 * second + later] = 0xFF;
-                script.forecast(&card);
-            }
-        }
-    }
+    each_field_in_turn(script, &good, &[(0, 1), (0, 2), (1, 2)], 0x52);
 }
 
 fn two_rules_broken(script: &mut Script) {
