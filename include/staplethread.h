@@ -1,8 +1,8 @@
 /* Staplethread for C and C++: query cards, gate tables and digits.
  *
  * The rules are those of document 01, "The query builder and its exact rules", and of scored queries,
- * of constants near zero, of last-use lists, of products that nothing uses and of two conditions over
- * the same field those of document 02.
+ * of constants near zero, of last-use lists, of products that nothing uses, of two conditions over the
+ * same field and of step sizes those of document 02.
  *
  * A list is a pointer, then its length: in bytes, or of a last-use list in entries of two bytes.
  * Pointers are not null, not even those of empty lists. What a call writes overlaps nothing else that
@@ -33,8 +33,9 @@ typedef struct staplethread_cost {
     uint32_t hundredths;
 } staplethread_cost;
 
-/* What Build, Forecast and Check answer: the gate count G, the products, the squares, the cost (100
- * times the products plus s times the squares) and the depth. */
+/* What Build, Forecast and Check answer, and Build within a depth cap of the part handed back: the gate
+ * count G, the products, the squares, the cost (100 times the products plus s times the squares) and
+ * the depth. */
 typedef struct staplethread_report {
     uint16_t gates;
     uint16_t products;
@@ -107,6 +108,29 @@ uint8_t staplethread_build(const uint8_t *card, size_t card_length,
                            uint8_t *table, size_t table_length,
                            uint16_t *gates, uint16_t *products, uint16_t *squares,
                            uint32_t *cost, uint16_t *depth);
+
+/* Build within a depth cap: two tables of a plain card, and which of them to take. The first bytes of
+ * first become the table that Build writes, those of second the table of the best step size: none that
+ * is cap levels deep at most costs less, and of those that cost the same it has the lowest depth, then
+ * the lowest step size. Each fills exactly the 8(G+1) bytes of its own G; later bytes of both are kept.
+ *
+ * The part handed back is the cheaper one within the cap, that of first where both cost the same. which
+ * tells where it stands, 1 at the start of first, 2 at the start of second, and part_length how many
+ * bytes it has; the five numbers are what Check answers for it. Both tables answer the card for digits
+ * below B.
+ *
+ * Forecast tells how many bytes first needs. second may need some more or many fewer; no table is
+ * longer than 65536 bytes. A call takes some 130 KB of stack, twice as much as Check.
+ *
+ * Refuses as Forecast does of plain cards, with 2 for the head mark of another form, then
+ * 29  neither the table that Build writes nor that of any step size is cap levels deep at most
+ * 11  first or second lent under the 8(G+1) bytes of its table */
+uint8_t staplethread_build_within(const uint8_t *card, size_t card_length, uint16_t cap,
+                                  uint8_t *first, size_t first_length,
+                                  uint8_t *second, size_t second_length,
+                                  uint8_t *which, size_t *part_length,
+                                  uint16_t *gates, uint16_t *products, uint16_t *squares,
+                                  uint32_t *cost, uint16_t *depth);
 
 /* ---- Gate tables
  *
@@ -188,6 +212,20 @@ static inline uint8_t staplethread_build_report(const uint8_t *card, size_t card
     return staplethread_build(card, card_length, table, table_length,
                               &report->gates, &report->products, &report->squares,
                               &report->cost.hundredths, &report->depth.levels);
+}
+
+static inline uint8_t staplethread_build_within_report(const uint8_t *card, size_t card_length,
+                                                       staplethread_depth cap,
+                                                       uint8_t *first, size_t first_length,
+                                                       uint8_t *second, size_t second_length,
+                                                       uint8_t *which, size_t *part_length,
+                                                       staplethread_report *report)
+{
+    return staplethread_build_within(card, card_length, cap.levels,
+                                     first, first_length, second, second_length,
+                                     which, part_length,
+                                     &report->gates, &report->products, &report->squares,
+                                     &report->cost.hundredths, &report->depth.levels);
 }
 
 static inline uint8_t staplethread_check_report(const uint8_t *table, size_t table_length,

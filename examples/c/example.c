@@ -11,8 +11,9 @@
 
 #include "staplethread.h"
 
-/* p = 31, so a digit is below B = 16. */
+/* p = 31, so a digit is below B = 16. No table is longer than 8 * 8192 bytes. */
 enum { PRIME = 31, WEIGHT = 75, DISTANCE_DIGITS = 3, GRADE_DIGITS = 1, SLOTS = 4 };
+enum { LONGEST_TABLE = 8 * 8192 };
 
 static const uint8_t card[] = {
     0xC5, 0x48, PRIME, WEIGHT, 2, 0,
@@ -63,9 +64,10 @@ static unsigned most_held(const uint16_t *list, unsigned gates)
 int main(void)
 {
     static const struct { uint64_t distance, grade; } records[] = { { 34, 4 }, { 12, 5 } };
-    staplethread_report report;
-    uint8_t query[SLOTS];
-    size_t table_length, i;
+    static uint8_t stepped[LONGEST_TABLE];
+    staplethread_report report, offer;
+    uint8_t query[SLOTS], which;
+    size_t table_length, part_length, i;
     uint8_t *table, *work;
     uint16_t *list, gates;
 
@@ -87,6 +89,14 @@ int main(void)
     print_report("check", report);
     expect("last_uses", staplethread_last_uses(table, table_length, list, report.gates, &gates));
     printf("held at once: at most %u of %u\n", most_held(list, gates), (unsigned)gates);
+
+    /* Is there a cheaper table that is no deeper? */
+    expect("build_within", staplethread_build_within_report(card, sizeof card, report.depth,
+                                                            table, table_length,
+                                                            stepped, sizeof stepped,
+                                                            &which, &part_length, &offer));
+    print_report("build_within", offer);
+    printf("handed back: %lu bytes of table %u\n", (unsigned long)part_length, (unsigned)which);
 
     encode(20, 3, query);
     for (i = 0; i < sizeof records / sizeof records[0]; i++) {

@@ -132,6 +132,65 @@ fn copy_row(name: &'static str, card: &[u8]) -> Row {
     }
 }
 
+/// No table is longer.
+const LONGEST_TABLE: usize = 65_536;
+
+/// A search by the same rules and no other means: the table of each step size is written and asked
+/// after, as `build_step` does, and the best one is written once more. Any depth is within the cap.
+fn plain_search(card: &[u8], first: &mut [u8], second: &mut [u8], scratch: &mut [u8]) -> u32 {
+    let base = second::build(card, first).expect("it has room");
+    let report_of = |step: u8, table: &mut [u8]| {
+        second::build_step(card, step, table).expect("it has room for every step size")
+    };
+    let best = (1..=(card[2] - 1) / 2)
+        .min_by_key(|&step| {
+            let report = report_of(step, scratch);
+            (report.cost, report.depth)
+        })
+        .expect("there is a step size");
+    let stepped = report_of(best, second);
+    base.cost.min(stepped.cost).0
+}
+
+/// Build within a depth cap of any depth, against the second program's, which counts the tables of
+/// step sizes without writing them, and against a search that writes them all.
+fn within_rows(name: &'static str, card: &[u8]) -> Vec<Row> {
+    let cap = staplethread::Depth(u16::MAX);
+    let report = staplethread::forecast(card).expect("the card is accepted");
+    let steps = usize::from(card[2] / 2);
+    let calls = (GATES_A_TURN / (steps * usize::from(report.gates) + 20)).max(1);
+    let blank = || vec![0; LONGEST_TABLE];
+    let (mut first, mut second) = (blank(), blank());
+    let mut library = || {
+        let part = staplethread::build_within(black_box(card), cap, &mut first, &mut second);
+        keep(part);
+    };
+    let mut theirs = (blank(), blank());
+    let counted = compare(calls, &mut library, &mut || {
+        let (first, second) = (&mut theirs.0, &mut theirs.1);
+        keep(second::build_within(black_box(card), cap.0, first, second));
+    });
+    let (mut searched, mut scratch) = ((blank(), blank()), blank());
+    let written = compare(calls, &mut library, &mut || {
+        let (first, second) = (&mut searched.0, &mut searched.1);
+        keep(plain_search(black_box(card), first, second, &mut scratch));
+    });
+    let ours = (first, second);
+    assert!(ours == theirs && ours == searched);
+    [
+        ("Build within a cap", counted),
+        ("Build within a cap, against writing each table", written),
+    ]
+    .into_iter()
+    .map(|(operation, (library, plain))| Row {
+        operation,
+        card: name,
+        library,
+        plain,
+    })
+    .collect()
+}
+
 /// Sizes that about double, and where the library's arrays grow.
 const SIZES: [u16; 7] = [256, 257, 1_000, 2_000, 2_049, 4_000, 8_191];
 
@@ -157,6 +216,20 @@ fn print_growth() {
             format!(" {library:.0} ({:.2})", library / plain)
         });
         println!("| {} |{} |", shape.name, cells.join(" |"));
+    }
+}
+
+fn print_rows(card: &[u8], rows: &[Row]) {
+    let gates = staplethread::forecast(card).expect("accepted").gates;
+    for row in rows {
+        println!(
+            "| {} | {} | {gates} | {:.0} | {:.0} | {:.2} |",
+            row.operation,
+            row.card,
+            row.library,
+            row.plain,
+            row.library / row.plain
+        );
     }
 }
 
@@ -188,17 +261,21 @@ fn main() {
         if *name == cards[cards.len() - 1].0 {
             lines.push(copy_row(name, card));
         }
-        let gates = staplethread::forecast(card).expect("accepted").gates;
-        for row in lines {
-            println!(
-                "| {} | {} | {gates} | {:.0} | {:.0} | {:.2} |",
-                row.operation,
-                row.card,
-                row.library,
-                row.plain,
-                row.library / row.plain
-            );
-        }
+        print_rows(card, &lines);
+    }
+    let searched = [
+        (
+            "p=31, >= of 3, > of 1",
+            card_bytes(31, 75, &[(4, 3), (3, 1)]),
+        ),
+        (
+            "p=31, = of 2, not equal of 1",
+            card_bytes(31, 75, &[(5, 2), (6, 1)]),
+        ),
+        ("p=251, < of 16", card_bytes(251, 100, &[(1, 16)])),
+    ];
+    for (name, card) in &searched {
+        print_rows(card, &within_rows(name, card));
     }
     print_growth();
 }

@@ -1,9 +1,9 @@
 //! "Distance at least 20 m, grade worse than 3": a question, its table, and the answer for two
 //! records; then "how bad is this stretch?", a score over the same two conditions; then "between 20
-//! and 40 m", two conditions over one distance. Plain digits stand where the runner has
-//! ciphertexts, and how many of these it has to hold at once is printed.
+//! and 40 m", two conditions over one distance; then what an owner with a deep key saves. Plain digits
+//! stand where the runner has ciphertexts, and how many of these it has to hold at once is printed.
 
-use staplethread::{build, encode, forecast, last_uses, run, Refusal};
+use staplethread::{build, build_within, encode, forecast, last_uses, run, Depth, Refusal};
 
 /// B = 16: a distance of up to 4,095 m takes three digits, a grade one.
 const P: u8 = 31;
@@ -23,6 +23,12 @@ const SCORE_CARD: [u8; 18] = [
 const RANGE_CARD: [u8; 18] = [
     0xC5, 0x4A, P, 75, 2, 0, 0xC5, 0x52, 4, 3, 0, 0, 0xC5, 0x52, 2, 3, 0, 0,
 ];
+
+/// Left above right for the grade and nothing else.
+const GRADE_CARD: [u8; 10] = [0xC5, 0x48, P, 75, 1, 0, 0xC5, 0x51, 3, 1];
+
+/// No table is longer.
+const LONGEST_TABLE: usize = 65_536;
 
 /// The digits of a distance.
 fn distance(metres: u64) -> Result<Vec<u8>, Refusal> {
@@ -96,8 +102,29 @@ fn between(distances: &[u64]) -> Result<(), Refusal> {
     Ok(())
 }
 
+/// What a card's table costs, and the cheaper of two where keys bear so many levels.
+fn deep_key(card: &[u8], caps: &[u16]) -> Result<(), Refusal> {
+    let base = forecast(card)?;
+    println!("base: depth {}, cost {}", base.depth.0, base.cost.0);
+    let mut first = vec![0; base.table_bytes()];
+    let mut second = vec![0; LONGEST_TABLE];
+    for &cap in caps {
+        let part = build_within(card, Depth(cap), &mut first, &mut second)?;
+        println!(
+            "within {cap} levels: depth {}, cost {}, {:?} table, {} bytes",
+            part.report.depth.0,
+            part.report.cost.0,
+            part.which,
+            part.bytes.len()
+        );
+    }
+    Ok(())
+}
+
 fn main() -> Result<(), Refusal> {
     stretches(&CARD, &[(34, 4), (12, 5)])?;
     stretches(&SCORE_CARD, &[(34, 4), (12, 5), (34, 2), (12, 1)])?;
-    between(&[19, 20, 34, 40, 41])
+    between(&[19, 20, 34, 40, 41])?;
+    deep_key(&CARD, &[8, 9])?;
+    deep_key(&GRADE_CARD, &[5, 6])
 }

@@ -13,6 +13,22 @@ extern "C" {
         cost: &mut u32,
         depth: &mut u16,
     ) -> u8;
+    pub fn staplethread_build_within(
+        card: *const u8,
+        card_length: usize,
+        cap: u16,
+        first: *mut u8,
+        first_length: usize,
+        second: *mut u8,
+        second_length: usize,
+        which: &mut u8,
+        part_length: &mut usize,
+        gates: &mut u16,
+        products: &mut u16,
+        squares: &mut u16,
+        cost: &mut u32,
+        depth: &mut u16,
+    ) -> u8;
     pub fn staplethread_forecast(
         card: *const u8,
         card_length: usize,

@@ -1,10 +1,10 @@
-//! The query builder for encrypted records: eight operations of a proved library, called safely.
+//! The query builder for encrypted records: nine operations of a proved library, called safely.
 //!
 //! Every function answers for all inputs. A refusal is the rules' number and nothing else, and
 //! leaves every lent byte and entry as it was. A card is a plain one, which asks for a yes or no, a score
 //! card, which asks for the sum of the weights of the conditions that hold, or a shared card, which
 //! asks for a yes or no and whose conditions may be over the same left slots; `build` and `forecast`
-//! take all three.
+//! take all three, `build_within` plain ones.
 //!
 //! The head of a shared card's table has a slot count for each side, byte 4 the left one and byte 5 the
 //! right one; that of any other has one for both, byte 4. `run` takes lists of these lengths.
@@ -55,6 +55,30 @@ impl Report {
     };
 }
 
+/// One of two lent tables.
+#[derive(Clone, Copy, Debug, PartialEq, Eq)]
+pub enum Which {
+    First,
+    Second,
+}
+
+/// The table that is handed back of two lent ones: which it is, its bytes, from the start of it on, and
+/// the report on it.
+#[derive(Clone, Copy, Debug, PartialEq, Eq)]
+pub struct Part<'a> {
+    pub which: Which,
+    pub bytes: &'a [u8],
+    pub report: Report,
+}
+
+/// What tells of a part, to be lent: which table, 1 or 2, how many bytes of it, and the report.
+#[derive(Clone, Copy, Debug, PartialEq, Eq)]
+struct Handed {
+    which: u8,
+    length: usize,
+    report: Report,
+}
+
 /// Why an operation turns its input away, by the rules' number.
 #[derive(Clone, Copy, Debug, PartialEq, Eq)]
 pub struct Refusal(pub u8);
@@ -87,6 +111,33 @@ fn build_into(card: &[u8], table: &mut [u8], told: &mut Report) -> u8 {
             &mut told.squares,
             &mut told.cost.0,
             &mut told.depth.0,
+        )
+    }
+}
+
+fn build_within_into(
+    card: &[u8],
+    cap: Depth,
+    first: &mut [u8],
+    second: &mut [u8],
+    told: &mut Handed,
+) -> u8 {
+    unsafe {
+        exports::staplethread_build_within(
+            card.as_ptr(),
+            card.len(),
+            cap.0,
+            first.as_mut_ptr(),
+            first.len(),
+            second.as_mut_ptr(),
+            second.len(),
+            &mut told.which,
+            &mut told.length,
+            &mut told.report.gates,
+            &mut told.report.products,
+            &mut told.report.squares,
+            &mut told.report.cost.0,
+            &mut told.report.depth.0,
         )
     }
 }
@@ -155,6 +206,39 @@ fn decode_into(p: u8, digits: &[u8], number: &mut u64) -> u8 {
 pub fn build(card: &[u8], table: &mut [u8]) -> Result<Report, Refusal> {
     let mut told = Report::BLANK;
     accepted(build_into(card, table, &mut told), told)
+}
+
+/// Two tables of a plain card, and the part that is the cheaper one within so many levels, the first
+/// where both cost the same. At the start of `first` then stands the table that `build` writes, at the
+/// start of `second` that of the best step size: none within the cap costs less, and of those that cost
+/// the same it has the lowest depth, then the lowest step size. Each fills exactly the 8(G+1) bytes of
+/// its own G; the report is what `check` answers for the part.
+///
+/// Both answer the card for all digits below (p+1)/2. That depth and cost are the formulas', and that
+/// all gates count, is so of the first. No table is longer than 65,536 bytes.
+pub fn build_within<'a>(
+    card: &[u8],
+    cap: Depth,
+    first: &'a mut [u8],
+    second: &'a mut [u8],
+) -> Result<Part<'a>, Refusal> {
+    let mut told = Handed {
+        which: 0,
+        length: 0,
+        report: Report::BLANK,
+    };
+    let status = build_within_into(card, cap, first, second, &mut told);
+    accepted(status, told).map(|told| {
+        let (which, lent) = match told.which {
+            1 => (Which::First, first),
+            _ => (Which::Second, second),
+        };
+        Part {
+            which,
+            bytes: &lent[..told.length],
+            report: told.report,
+        }
+    })
 }
 
 /// Build's report, from the card only.
@@ -228,6 +312,20 @@ mod tests {
         assert_eq!(forecast_into(&CARD[..5], &mut told), 1);
         assert_eq!(build_into(&CARD, &mut table, &mut told), 11);
         assert_eq!(check_into(&table[..7], &mut told), 12);
+        assert_eq!(told, before);
+        let before = Handed {
+            which: 9,
+            length: 10,
+            report: before,
+        };
+        let mut told = before;
+        let mut others = [0; 64];
+        let mut within = |cap, first: &mut [u8], second: &mut [u8]| {
+            build_within_into(&CARD, Depth(cap), first, second, &mut told)
+        };
+        assert_eq!(within(0, &mut others, &mut table), 29);
+        assert_eq!(within(1, &mut others, &mut table), 11);
+        assert_eq!(within(1, &mut table, &mut others), 11);
         assert_eq!(told, before);
         let (mut output, mut number, mut gates) = (6, 7, 8);
         assert_eq!(run_into(&table, &[0], &[0], &mut [], &mut output), 2);

@@ -3,12 +3,14 @@
 //! around it.
 //!
 //! STAPLETHREAD_ROUNDS sets how many rounds each test takes, but for `each_word` and
-//! `each_constant`, which take each word, and each b of a SCALE at each prime, once.
+//! `each_constant`, which take each word, and each b of a SCALE at each prime, once, and
+//! `depth_caps`, which takes one round for ten of the others.
 
 use second::card::{
     card_bytes, score_card_bytes, shared_card_bytes, Card, Form, SCORE_HEAD_MARK, SHARED_HEAD_MARK,
 };
 use second::Random;
+use std::cmp::Ordering;
 use std::collections::BTreeMap;
 use std::fmt::Debug;
 
@@ -21,6 +23,10 @@ fn rounds() -> u64 {
         text.parse().expect("STAPLETHREAD_ROUNDS is a number")
     })
 }
+
+/// The library finds the best step size by writing the table of each: for sixteen digits at p = 251
+/// that takes some five hundred times as long as Build.
+const ROUNDS_FOR_ONE_CAP: u64 = 10;
 
 /// How often each answer came up: 0 counts successes, other keys are refusals.
 #[derive(Default)]
@@ -47,14 +53,20 @@ impl Seen {
 /// The five numbers, whichever side they come from.
 type Numbers = (u16, u16, u16, u32, u16);
 
+fn library_numbers(r: staplethread::Report) -> Numbers {
+    (r.gates, r.products, r.squares, r.cost.0, r.depth.0)
+}
+
+fn second_numbers(r: second::Report) -> Numbers {
+    (r.gates, r.products, r.squares, r.cost.0, r.depth.0)
+}
+
 fn of_library(answer: Result<staplethread::Report, staplethread::Refusal>) -> Result<Numbers, u8> {
-    answer
-        .map(|r| (r.gates, r.products, r.squares, r.cost.0, r.depth.0))
-        .map_err(|why| why.0)
+    number_of(answer.map(library_numbers))
 }
 
 fn of_second(answer: Result<second::Report, second::Refusal>) -> Result<Numbers, u8> {
-    answer.map(|r| (r.gates, r.products, r.squares, r.cost.0, r.depth.0))
+    answer.map(second_numbers)
 }
 
 fn number_of<T>(answer: Result<T, staplethread::Refusal>) -> Result<T, u8> {
@@ -509,6 +521,199 @@ fn tables() {
             &[0, 2, 3, 4, 5, 12, 13, 14, 15, 16, 17, 27],
         );
     }
+}
+
+/// A plain card for the search of a step size: mostly of few digits and at a small prime, as all step
+/// sizes are tried; now and then of up to 16 digits, and at any prime.
+fn card_to_search(random: &mut Random) -> Vec<u8> {
+    if rarely(random, 8) {
+        return plain_card(random);
+    }
+    let p = if rarely(random, 16) {
+        random.pick(&second::field::PRIMES)
+    } else {
+        random.pick(&[3, 3, 5, 7, 7, 11, 11, 13, 17, 19, 23, 29, 31, 37])
+    };
+    let conditions: Vec<_> = (0..1 + random.below(3))
+        .map(|_| (1 + random.byte_below(6), random.pick(&[1, 1, 2, 3])))
+        .collect();
+    let weight = match random.below(4) {
+        0 => 50,
+        1 => 100,
+        _ => square_weight(random),
+    };
+    card_bytes(p, weight, &conditions)
+}
+
+/// A cap about the depth of a card's table, or of any size.
+fn depth_cap(random: &mut Random, depth: u16) -> u16 {
+    match random.below(12) {
+        0 => 0,
+        1 => u16::MAX,
+        2 => random.below(12) as u16,
+        3 => random.next_u64() as u16,
+        4 => depth - 1,
+        5 | 6 => depth + 1,
+        7 => depth + 2,
+        _ => depth,
+    }
+}
+
+/// No table is longer.
+const LONGEST_TABLE: usize = 65_536;
+
+/// How many bytes the two tables take, by the second program; where it refuses, some.
+fn two_lengths(card: &[u8], cap: u16) -> (usize, usize) {
+    let (mut first, mut second) = (vec![0; LONGEST_TABLE], vec![0; LONGEST_TABLE]);
+    match second::build_within(card, cap, &mut first, &mut second) {
+        Ok(_) => (second::trim(&first).len(), second::trim(&second).len()),
+        Err(_) => (64, 64),
+    }
+}
+
+/// Two buffers with a margin between them, of one that is lent.
+fn in_two(lent: &mut [u8], first_length: usize) -> (&mut [u8], &mut [u8]) {
+    let (first, rest) = lent.split_at_mut(first_length);
+    (first, &mut rest[MARGIN..])
+}
+
+/// Which table is handed back, 1 or 2, how many bytes of it, and the five numbers.
+type Handed = (u8, usize, Numbers);
+
+/// What both sides answer to two buffers of such lengths, and what they leave in the two.
+fn compare_build_within(
+    random: &mut Random,
+    card: &[u8],
+    cap: u16,
+    lengths: (usize, usize),
+) -> (Result<Handed, u8>, [Vec<u8>; 2]) {
+    let (answer, mut lent) = compare_lent(
+        drawn_bytes(random, lengths.0 + MARGIN + lengths.1),
+        &(card, cap, lengths),
+        |lent| {
+            let (first, second) = in_two(lent, lengths.0);
+            number_of(library_build_within(card, cap, first, second))
+        },
+        |lent| {
+            let (first, second) = in_two(lent, lengths.0);
+            second::build_within(card, cap, first, second)
+                .map(|offer| (offer.which, offer.length, second_numbers(offer.report)))
+        },
+    );
+    let (first, second) = in_two(&mut lent, lengths.0);
+    (answer, [first.to_vec(), second.to_vec()])
+}
+
+/// The library's answer, and that the part is the start of the buffer which it says, a table from end
+/// to end, and reported on as Check does.
+fn library_build_within(
+    card: &[u8],
+    cap: u16,
+    first: &mut [u8],
+    second: &mut [u8],
+) -> Result<Handed, staplethread::Refusal> {
+    let starts = (first.as_ptr(), second.as_ptr());
+    let part = staplethread::build_within(card, staplethread::Depth(cap), first, second)?;
+    let (which, start) = match part.which {
+        staplethread::Which::First => (1, starts.0),
+        staplethread::Which::Second => (2, starts.1),
+    };
+    assert!(std::ptr::eq(part.bytes.as_ptr(), start), "{card:02X?}");
+    assert_eq!(part.bytes.len(), part.report.table_bytes(), "{card:02X?}");
+    assert_eq!(staplethread::trim(part.bytes), part.bytes, "{card:02X?}");
+    assert_eq!(
+        staplethread::check(part.bytes),
+        Ok(part.report),
+        "{card:02X?}"
+    );
+    Ok((which, part.bytes.len(), library_numbers(part.report)))
+}
+
+/// A table's output is the truth about a drawn record and query.
+fn expect_truth(random: &mut Random, card: &[u8], table: &[u8]) {
+    let base = card[2] / 2 + 1;
+    let left = random.bytes_below(base, table[4].into());
+    let mut right = left.clone();
+    for digit in &mut right {
+        if rarely(random, 3) {
+            *digit = random.byte_below(base);
+        }
+    }
+    let truth = second::expected_output(card, &left, &right).expect("digits below B");
+    let mut work = vec![0; table.len() / 8 - 1];
+    let output = staplethread::run(table, &left, &right, &mut work).map(u16::from);
+    assert_eq!(output, Ok(truth), "{card:02X?} {left:?} {right:?}");
+}
+
+/// Two tables of a plain card within a depth cap.
+#[test]
+fn depth_caps() {
+    let mut random = Random::new(9);
+    let mut plain = Seen::default();
+    let mut others = Seen::default();
+    // Which table costs less, where both are written: the first, neither, the second.
+    let mut cheaper = [0u64; 3];
+    // Which buffer was too short: the first, the second, both.
+    let mut short = [0u64; 3];
+    let mut deeper = 0;
+    for _ in 0..rounds() / ROUNDS_FOR_ONE_CAP {
+        let mut card = match random.below(16) {
+            0 => score_card(&mut random),
+            1 => shared_card(&mut random),
+            _ => card_to_search(&mut random),
+        };
+        if rarely(&mut random, 3) {
+            damage(&mut random, &mut card);
+        }
+        let before = card.clone();
+        let base = second::forecast(&card).map_or(8, |report| report.depth.0);
+        let cap = depth_cap(&mut random, base);
+        let needed = two_lengths(&card, cap);
+        let lengths = if rarely(&mut random, 2) {
+            (room(&mut random, needed.0), room(&mut random, needed.1))
+        } else {
+            needed
+        };
+        let (answer, lent) = compare_build_within(&mut random, &card, cap, lengths);
+        assert_eq!(card, before);
+        if card.starts_with(&SCORE_HEAD_MARK) || card.starts_with(&SHARED_HEAD_MARK) {
+            others.note(&answer);
+        } else {
+            plain.note(&answer);
+        }
+        match answer {
+            Ok((which, _, _)) => {
+                let tables = [&lent[0][..needed.0], &lent[1][..needed.1]];
+                let [first, second] = tables.map(|table| {
+                    expect_truth(&mut random, &card, table);
+                    compare_check(table).expect("it was written")
+                });
+                let (costs, depths) = ((first.3, second.3), (first.4, second.4));
+                assert!(depths.0 <= cap && depths.1 <= cap, "{card:02X?} {cap}");
+                assert_eq!(which == 1, costs.0 <= costs.1, "{card:02X?} {cap}");
+                cheaper[match costs.0.cmp(&costs.1) {
+                    Ordering::Less => 0,
+                    Ordering::Equal => 1,
+                    Ordering::Greater => 2,
+                }] += 1;
+                deeper += u64::from(depths.1 > depths.0);
+            }
+            Err(11) => {
+                short[match (lengths.0 < needed.0, lengths.1 < needed.1) {
+                    (true, false) => 0,
+                    (false, true) => 1,
+                    (true, true) => 2,
+                    (false, false) => panic!("there is room: {card:02X?} {cap}"),
+                }] += 1;
+            }
+            Err(_) => {}
+        }
+    }
+    plain.expect("build_within", &[0, 1, 2, 3, 4, 5, 6, 7, 8, 9, 10, 11, 29]);
+    others.expect("build_within of other forms", &[2]);
+    assert!(others.0.keys().all(|answer| [1, 2].contains(answer)));
+    println!("build_within: cheaper {cheaper:?}, second deeper {deeper}, too short {short:?}");
+    assert!(cheaper.iter().chain(&short).all(|&count| count > 0) && deeper > 0);
 }
 
 /// A gate number below `number`: one of the first few, one of the last few, or any.

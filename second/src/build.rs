@@ -1,5 +1,7 @@
 //! Build: "Writing one condition", "Whole card", "Scored queries" and "Two
-//! conditions over the same field", all with "Constants near zero".
+//! conditions over the same field", all with "Constants near zero". How order
+//! digits are written is a choice of the caller's, since a step size writes other
+//! ones into the same table.
 
 use crate::card::{Card, Condition, Form, Relation};
 use crate::field::{near_zero, order_constants};
@@ -10,20 +12,35 @@ use crate::table::{table_bytes, Gate, Head, Kind, Slots, RECORD_BYTES};
 
 /// A written gate: its number and its depth.
 #[derive(Clone, Copy, Debug, PartialEq, Eq)]
-struct Wire {
+pub(crate) struct Wire {
     gate: u16,
     depth: u16,
 }
 
 /// L of an order digit or of a run of them, and E unless it has digit 0.
 #[derive(Clone, Copy, Debug)]
-struct Order {
-    less: Wire,
-    equal: Option<Wire>,
+pub(crate) struct Order {
+    pub less: Wire,
+    pub equal: Option<Wire>,
+}
+
+/// How the order digits of a card are written.
+pub(crate) trait OrderDigits {
+    /// The gates of a digit after its z: L, and E unless it is the lowest one.
+    fn write_digit(&mut self, writer: &mut Writer, z: Wire, is_lowest: bool) -> Order;
+}
+
+/// The order digits of "Writing one condition".
+struct BaseDigits {
+    p: u8,
+    /// Those of the prime, which serve all order conditions of the card.
+    constants: Vec<u8>,
+    /// The powers of the digit at hand.
+    powers: Vec<Wire>,
 }
 
 /// Writes gates into the lent table and counts them.
-struct Writer<'a> {
+pub(crate) struct Writer<'a> {
     p: u8,
     table: &'a mut [u8],
     gates: u16,
@@ -36,16 +53,28 @@ pub fn build(card: &[u8], table: &mut [u8]) -> Result<Report, Refusal> {
     let card = Card::read(card)?;
     let room = table_bytes(card_report(&card).gates);
     let table = table.get_mut(..room).ok_or(refusal::TABLE_ROOM)?;
+    Ok(write_base(&card, table))
+}
+
+/// Writes Build's table of the card into a part that has room for it.
+pub(crate) fn write_base(card: &Card, table: &mut [u8]) -> Report {
+    write_table(card, table, &mut BaseDigits::new(card))
+}
+
+/// Writes a table of the card with such order digits. All MULs are counted as
+/// they are written, which is what a table of Build's keeps; one with other
+/// digits may count fewer.
+pub(crate) fn write_table(card: &Card, table: &mut [u8], digits: &mut impl OrderDigits) -> Report {
     let mut writer = Writer::new(card.p, table);
-    let output = write_card(&mut writer, &card);
-    writer.write_head(&card);
-    Ok(Report {
+    let output = write_card(&mut writer, card, digits);
+    writer.write_head(card);
+    Report {
         gates: writer.gates,
         products: writer.products,
         squares: writer.squares,
         cost: cost(card.weight, writer.products, writer.squares),
         depth: Depth(output.depth),
-    })
+    }
 }
 
 impl<'a> Writer<'a> {
@@ -91,7 +120,7 @@ impl<'a> Writer<'a> {
         self.write(Kind::Right, slot as u16, 0, 0)
     }
 
-    fn add(&mut self, a: Wire, b: Wire) -> Wire {
+    pub(crate) fn add(&mut self, a: Wire, b: Wire) -> Wire {
         self.write(Kind::Add, a.gate, b.gate, a.depth.max(b.depth))
     }
 
@@ -100,20 +129,20 @@ impl<'a> Writer<'a> {
     }
 
     /// The constant, below p here, is written as the number near zero.
-    fn scale(&mut self, a: Wire, constant: u8) -> Wire {
+    pub(crate) fn scale(&mut self, a: Wire, constant: u8) -> Wire {
         let b = near_zero(self.p, constant).cast_unsigned();
         self.write(Kind::Scale, a.gate, b, a.depth)
     }
 
-    fn flip(&mut self, a: Wire) -> Wire {
+    pub(crate) fn flip(&mut self, a: Wire) -> Wire {
         self.write(Kind::Flip, a.gate, 0, a.depth)
     }
 
-    fn mul(&mut self, a: Wire, b: Wire) -> Wire {
+    pub(crate) fn mul(&mut self, a: Wire, b: Wire) -> Wire {
         self.write(Kind::Mul, a.gate, b.gate, a.depth.max(b.depth) + 1)
     }
 
-    fn square(&mut self, a: Wire) -> Wire {
+    pub(crate) fn square(&mut self, a: Wire) -> Wire {
         self.mul(a, a)
     }
 }
@@ -132,8 +161,8 @@ fn head_slots(card: &Card) -> Slots {
 
 /// "Conditions in order, then the product tree over their outputs"; a score
 /// card has the score in its place: "there is no product tree".
-fn write_card(writer: &mut Writer, card: &Card) -> Wire {
-    let outputs = write_conditions(writer, card);
+fn write_card(writer: &mut Writer, card: &Card, digits: &mut impl OrderDigits) -> Wire {
+    let outputs = write_conditions(writer, card, digits);
     match card.form {
         Form::Plain | Form::Shared => product_tree(writer, outputs),
         Form::Score => write_score(writer, card, &outputs),
@@ -150,23 +179,11 @@ fn write_score(writer: &mut Writer, card: &Card, outputs: &[Wire]) -> Wire {
 
 /// The conditions in order, each in its left slots and in the next right ones:
 /// "right slots are still handed out in order". Their outputs.
-fn write_conditions(writer: &mut Writer, card: &Card) -> Vec<Wire> {
-    // The constants of the prime serve all order conditions of the card.
-    let constants = if card.conditions.iter().any(|c| c.relation.is_order()) {
-        order_constants(card.p)
-    } else {
-        Vec::new()
-    };
+fn write_conditions(writer: &mut Writer, card: &Card, digits: &mut impl OrderDigits) -> Vec<Wire> {
     let mut first_right = 0;
     let mut outputs = Vec::with_capacity(card.conditions.len());
     for condition in &card.conditions {
-        outputs.push(write_condition(
-            writer,
-            card.p,
-            &constants,
-            condition,
-            first_right,
-        ));
+        outputs.push(write_condition(writer, digits, condition, first_right));
         first_right += condition.digits;
     }
     outputs
@@ -176,8 +193,7 @@ fn write_conditions(writer: &mut Writer, card: &Card) -> Vec<Wire> {
 /// writes LEFT, RIGHT", also where an earlier condition has that left slot's.
 fn write_condition(
     writer: &mut Writer,
-    p: u8,
-    constants: &[u8],
+    order_digits: &mut impl OrderDigits,
     condition: &Condition,
     first_right: usize,
 ) -> Wire {
@@ -185,19 +201,17 @@ fn write_condition(
     let slots = condition.left_slots().zip(first_right..);
     let joined = if relation.is_order() {
         let mut digits = Vec::with_capacity(condition.digits);
-        let mut powers = Vec::with_capacity(usize::from(p));
         for (left, right) in slots {
             let is_lowest = digits.is_empty();
             let z = write_difference(writer, relation, left, right);
-            write_powers(writer, p, z, &mut powers);
-            digits.push(order_digit(writer, constants, &powers, is_lowest));
+            digits.push(order_digits.write_digit(writer, z, is_lowest));
         }
         join_order(writer, &digits).less
     } else {
         let mut digits = Vec::with_capacity(condition.digits);
         for (left, right) in slots {
             let z = write_difference(writer, relation, left, right);
-            digits.push(equality_digit(writer, p, z));
+            digits.push(equality_digit(writer, z));
         }
         product_tree(writer, digits)
     };
@@ -228,8 +242,8 @@ fn write_difference(
 /// "t=p-1, bit 0 upward. At each bit after 0 square the running power. At a
 /// set bit it becomes the collected power, or MUL (collected, running) if one
 /// exists. After the top bit, FLIP."
-fn equality_digit(writer: &mut Writer, p: u8, z: Wire) -> Wire {
-    let mut bits = p - 1;
+pub(crate) fn equality_digit(writer: &mut Writer, z: Wire) -> Wire {
+    let mut bits = writer.p - 1;
     let mut running = z;
     let mut collected: Option<Wire> = None;
     loop {
@@ -248,6 +262,28 @@ fn equality_digit(writer: &mut Writer, p: u8, z: Wire) -> Wire {
     writer.flip(collected.expect("p-1 has a set bit"))
 }
 
+impl BaseDigits {
+    fn new(card: &Card) -> BaseDigits {
+        let constants = if card.conditions.iter().any(|c| c.relation.is_order()) {
+            order_constants(card.p)
+        } else {
+            Vec::new()
+        };
+        BaseDigits {
+            p: card.p,
+            constants,
+            powers: Vec::with_capacity(usize::from(card.p)),
+        }
+    }
+}
+
+impl OrderDigits for BaseDigits {
+    fn write_digit(&mut self, writer: &mut Writer, z: Wire, is_lowest: bool) -> Order {
+        write_powers(writer, self.p, z, &mut self.powers);
+        order_digit(writer, &self.constants, &self.powers, is_lowest)
+    }
+}
+
 /// "Powers z^i ascending for i = 2 to (p-1)/2, then the odd i above that to
 /// p-2, then p-1." Power i is put at place i; even places above (p-1)/2 but
 /// the last one, and place 0, hold z and are never used.
@@ -258,9 +294,14 @@ fn write_powers(writer: &mut Writer, p: u8, z: Wire, powers: &mut Vec<Wire>) {
     powers.resize(last + 1, z);
     let odd_above = (half + 1..last).filter(|i| i % 2 == 1);
     for i in (2..=half).chain(odd_above).chain([last]) {
-        // "Even i squares z^(i/2); odd i is MUL(z^((i-1)/2), z^((i+1)/2))."
-        powers[i] = writer.mul(powers[i / 2], powers[i.div_ceil(2)]);
+        powers[i] = write_power(writer, powers, i);
     }
+}
+
+/// "Even i squares z^(i/2); odd i is MUL(z^((i-1)/2), z^((i+1)/2))", where both
+/// are in their places.
+pub(crate) fn write_power(writer: &mut Writer, powers: &[Wire], i: usize) -> Wire {
+    writer.mul(powers[i / 2], powers[i.div_ceil(2)])
 }
 
 /// "Then for i = 1, 3, .. p-2, p-1 a SCALE of z^i by c_i, each after the first
@@ -280,7 +321,7 @@ fn order_digit(writer: &mut Writer, constants: &[u8], powers: &[Wire], is_lowest
 
 /// A SCALE of each gate by its constant, "each after the first followed by
 /// ADD(sum, it)".
-fn write_sum(writer: &mut Writer, terms: impl IntoIterator<Item = (Wire, u8)>) -> Wire {
+pub(crate) fn write_sum(writer: &mut Writer, terms: impl IntoIterator<Item = (Wire, u8)>) -> Wire {
     let mut sum: Option<Wire> = None;
     for (wire, constant) in terms {
         let term = writer.scale(wire, constant);

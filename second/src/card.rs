@@ -170,6 +170,14 @@ impl Card {
         Ok(card)
     }
 
+    /// Reads a card where none but plain ones are taken: "cards that are not
+    /// plain give 2", in the place of the head's mark.
+    pub fn read_plain(bytes: &[u8]) -> Result<Card, Refusal> {
+        demand(bytes.len() >= HEAD_BYTES, refusal::CARD_SHORT)?;
+        demand(bytes[..2] == HEAD_MARK, refusal::MARK)?;
+        Card::read(bytes)
+    }
+
     /// N, the digits of all conditions together. Each has a right slot of its
     /// own on cards of all forms, so "refusal 10 counts right slots" is this.
     pub fn digits(&self) -> usize {

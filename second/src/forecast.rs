@@ -6,11 +6,12 @@ use crate::refusal::Refusal;
 use crate::report::{cost, Depth, Report};
 
 /// Gates, products, squares and depth of one condition.
-struct Share {
-    gates: u32,
-    products: u32,
-    squares: u32,
-    depth: u32,
+#[derive(Clone, Copy, Debug)]
+pub(crate) struct Share {
+    pub gates: u32,
+    pub products: u32,
+    pub squares: u32,
+    pub depth: u32,
 }
 
 /// Forecast: Build's answers, without 11.
@@ -19,14 +20,20 @@ pub fn forecast(card: &[u8]) -> Result<Report, Refusal> {
 }
 
 /// "Gates: per order condition .., per equality condition ..", and those that
-/// join the conditions. All counts fit a u16: no card has more than 7114 gates.
+/// join the conditions. No card has more than 7114 gates.
 pub fn card_report(card: &Card) -> Report {
+    joined_report(card, |n| order_share(u32::from(card.p), n))
+}
+
+/// The answers for a card whose order conditions of n digits, but for a last
+/// FLIP, have such shares. All counts fit a u16.
+pub(crate) fn joined_report(card: &Card, order_share: impl Fn(u32) -> Share) -> Report {
     let (mut gates, mut products) = joining(card);
     let mut squares = 0;
     let mut powers = 0;
     let mut deepest = 0;
     for condition in &card.conditions {
-        let share = share(card.p, condition);
+        let share = share(card.p, condition, &order_share);
         gates += share.gates;
         products += share.products;
         squares += share.squares;
@@ -65,13 +72,12 @@ fn tree_depth(powers: u32) -> u32 {
     ceil_log2(powers)
 }
 
-fn share(p: u8, condition: &Condition) -> Share {
-    let p = u32::from(p);
+fn share(p: u8, condition: &Condition, order_share: &impl Fn(u32) -> Share) -> Share {
     let n = condition.digits as u32;
     let mut share = if condition.relation.is_order() {
-        order_share(p, n)
+        order_share(n)
     } else {
-        equality_share(p, n)
+        equality_share(u32::from(p), n)
     };
     if condition.relation.ends_with_flip() {
         share.gates += 1;

@@ -1,7 +1,8 @@
 //! The query builder: cards, gate tables, the plain run of a table, digit
 //! coding and a forecast, as the document on the builder's rules has them, and
 //! scored queries, constants near zero, the last-use list, products that nothing
-//! uses and two conditions over the same field, as the requests for them do.
+//! uses, two conditions over the same field and fewer products by a step size, as
+//! the requests for them do.
 
 pub mod build;
 pub mod card;
@@ -17,6 +18,9 @@ pub mod refusal;
 pub mod report;
 pub mod run;
 pub mod script;
+pub mod step;
+pub mod step_count;
+pub mod step_table;
 pub mod table;
 pub mod used;
 
@@ -32,4 +36,6 @@ pub use refusal::Refusal;
 pub use report::{Cost, Depth, Report};
 pub use run::run;
 pub use script::answers;
+pub use step::{best_step, build_step, build_within, Offer};
+pub use step_table::step_tables;
 pub use table::{check, trim};

@@ -1,12 +1,13 @@
-//! `second list`, `second cases`, `second answers`.
+//! `second list`, `second cases`, `second answers`, `second steps`.
 
 use std::io::{self, Read, Write};
 use std::process::ExitCode;
 
-const USAGE: &str = "usage: second list|cases|answers
+const USAGE: &str = "usage: second list|cases|answers|steps
   list     reads a card's raw bytes, writes its listing
   cases    writes the case script
   answers  reads a case script, writes what each line answers
+  steps    writes tables of what step sizes save
 ";
 
 fn main() -> ExitCode {
@@ -15,6 +16,7 @@ fn main() -> ExitCode {
         ["list"] => list(),
         ["cases"] => write_text(&second::cases()),
         ["answers"] => answers(),
+        ["steps"] => write_text(&second::step_tables()),
         _ => {
             eprint!("{USAGE}");
             return ExitCode::from(2);

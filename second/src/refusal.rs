@@ -1,5 +1,6 @@
 //! The numbers of "Operations and what they turn away", and those of scored
-//! queries, of the last-use list and of two conditions over the same field.
+//! queries, of the last-use list, of two conditions over the same field and of
+//! step sizes.
 
 /// A refusal answers its number and nothing else.
 pub type Refusal = u8;
@@ -32,6 +33,7 @@ pub const CONDITION_WEIGHT: Refusal = 25;
 pub const TOTAL_WEIGHT: Refusal = 26;
 pub const USES_ROOM: Refusal = 27;
 pub const FIRST_SLOT: Refusal = 28;
+pub const DEPTH_CAP: Refusal = 29;
 
 /// `Ok` where the condition holds, else the refusal.
 pub fn demand(condition: bool, refusal: Refusal) -> Result<(), Refusal> {

@@ -1,11 +1,11 @@
 //! What Build, Forecast and Check answer.
 
 /// Levels of multiplication.
-#[derive(Clone, Copy, Debug, PartialEq, Eq)]
+#[derive(Clone, Copy, Debug, PartialEq, Eq, PartialOrd, Ord)]
 pub struct Depth(pub u16);
 
 /// Hundredths of a product.
-#[derive(Clone, Copy, Debug, PartialEq, Eq)]
+#[derive(Clone, Copy, Debug, PartialEq, Eq, PartialOrd, Ord)]
 pub struct Cost(pub u32);
 
 /// "Success answers G, products, squares, cost, depth."

@@ -6,8 +6,9 @@ use crate::forecast::forecast;
 use crate::last_use::last_uses;
 use crate::refusal::Refusal;
 use crate::run::run;
+use crate::step::{build_within, Offer};
 use crate::table::{check, trim};
-use std::fmt::{Display, Write};
+use std::fmt::{Display, Formatter, Result as FormatResult, Write};
 use std::str::FromStr;
 
 const TABLE_AREA: usize = 65_600;
@@ -22,6 +23,7 @@ const SHOWN_BYTES: usize = 40;
 struct Areas {
     table: Vec<u8>,
     length: usize,
+    second_table: Vec<u8>,
     work: Vec<u8>,
     digits: Vec<u8>,
     uses: Vec<u16>,
@@ -63,6 +65,7 @@ impl Areas {
         Areas {
             table: vec![7; TABLE_AREA],
             length: 0,
+            second_table: vec![5; TABLE_AREA],
             work: vec![9; WORK_AREA],
             digits: vec![7; DIGIT_AREA],
             uses: vec![9; USE_AREA],
@@ -79,6 +82,7 @@ impl Areas {
         let answer = match words.next() {
             "forecast" => Some(self.forecast(&mut words)),
             "build" => Some(self.build(&mut words)),
+            "build_within" => Some(self.build_within(&mut words)),
             "check" => Some(answer("", check(self.current_table()))),
             "trim" => Some(format!("length {}", trim(self.current_table()).len())),
             "run" => Some(self.run(&mut words)),
@@ -98,6 +102,10 @@ impl Areas {
                 self.length = words.number();
                 None
             }
+            "swap" => {
+                std::mem::swap(&mut self.table, &mut self.second_table);
+                None
+            }
             _ => panic!("not a command: {line}"),
         };
         words.finish();
@@ -114,6 +122,17 @@ impl Areas {
         let lent = &mut self.table[..self.length];
         let outcome = build(&card, lent);
         answer("", outcome) + &lent_bytes(lent)
+    }
+
+    fn build_within(&mut self, words: &mut Words) -> String {
+        let cap = words.number();
+        self.length = words.number();
+        let second_room: usize = words.number();
+        let card = words.bytes();
+        let first = &mut self.table[..self.length];
+        let second = &mut self.second_table[..second_room];
+        let outcome = build_within(&card, cap, first, second);
+        answer("", outcome) + &lent_bytes(first) + &lent_bytes(second)
     }
 
     fn run(&mut self, words: &mut Words) -> String {
@@ -151,6 +170,17 @@ impl Areas {
         let bytes = words.bytes();
         self.table[..bytes.len()].copy_from_slice(&bytes);
         self.length = bytes.len();
+    }
+}
+
+impl Display for Offer {
+    fn fmt(&self, out: &mut Formatter<'_>) -> FormatResult {
+        let Offer {
+            which,
+            length,
+            report,
+        } = self;
+        write!(out, "part {which} length {length} {report}")
     }
 }
 

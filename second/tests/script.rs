@@ -1,6 +1,7 @@
 //! The case script and its answers.
 
 use second::card::{Card, Form};
+use second::field::PRIMES;
 use second::{answers, cases, expected_output};
 use std::collections::{BTreeMap, BTreeSet};
 
@@ -10,7 +11,7 @@ fn lines_with_answers<'a>(script: &'a str, text: &'a str) -> Vec<(&'a str, Optio
     let lines = script
         .lines()
         .map(|line| match word(line) {
-            "table" | "set" | "cut" => (line, None),
+            "table" | "set" | "cut" | "swap" => (line, None),
             _ => {
                 let (asked, answer) = answered.next().unwrap().split_once(": ").unwrap();
                 assert_eq!(asked, line);
@@ -42,6 +43,53 @@ fn bytes(word: &str) -> Vec<u8> {
 }
 
 #[test]
+fn the_example_of_two_tables() {
+    let script = "build_within 1 64 66 C54803640100C5510101\nbuild_within 1 40 16 -\n\
+                  build_within 0 8 0 C54803640100C5510101\nswap\ncheck\ncut 64\ncheck\n\
+                  run 8 00 01\nswap\nrun 7 01 00\n";
+    let expected = "build_within 1 64 66 C54803640100C5510101: part 1 length 64 \
+        gates 7 products 0 squares 1 cost 100 depth 1, \
+        lent checksum FIRST, lent checksum SECOND\n\
+        build_within 1 40 16 -: refused 1, \
+        lent 47480364010007004754010000000000475402000000000047540400000001004754070002000200, \
+        lent 47480364010007004754010000000000\n\
+        build_within 0 8 0 C54803640100C5510101: refused 29, lent 4748036401000700, lent -\n\
+        check: refused 15\n\
+        check: gates 7 products 1 squares 0 cost 100 depth 1\n\
+        run 8 00 01: output 1, lent 0001020201020109\n\
+        run 7 01 00: output 0, lent 01000101010200\n";
+    // LEFT, RIGHT, SUB; the base table squares z, and the step size 1 has z times
+    // the SCALE of z by -1.
+    let (head, ends) = (
+        [0x47, 0x48, 3, 100, 1, 0, 7, 0],
+        [
+            [(7, 2, 2), (5, 2, 1), (5, 3, -1), (3, 4, 5)],
+            [(5, 2, 1), (5, 2, -1), (7, 2, 4), (3, 3, 5)],
+        ],
+    );
+    let sums = ends.map(|end| {
+        let gates = [[(1, 0, 0), (2, 0, 0), (4, 0, 1)].as_slice(), &end].concat();
+        let records = gates.into_iter().flat_map(|(kind, a, b): (u8, u8, i16)| {
+            let [low, high] = b.to_le_bytes();
+            [0x47, 0x54, kind, 0, a, 0, low, high]
+        });
+        head.into_iter().chain(records).collect::<Vec<u8>>()
+    });
+    let [first, second] = sums;
+    let second = [&second[..], &[5, 5]].concat();
+    let expected = expected
+        .replace("FIRST", &checksum(&first).to_string())
+        .replace("SECOND", &checksum(&second).to_string());
+    assert_eq!(answers(script), expected);
+}
+
+/// "S starts at 1, and each byte in turn makes it (257 S + byte) modulo 65521."
+fn checksum(bytes: &[u8]) -> u32 {
+    let step = |sum: u32, &byte: &u8| (257 * sum + u32::from(byte)) % 65_521;
+    bytes.iter().fold(1, step)
+}
+
+#[test]
 fn the_example() {
     let script = "build 64 C548034B0100C5510101\ncheck\nrun 8 00 01\n\
                   encode 5 2 8 3\ndecode 5 0202\ntrim\nlast_uses 7\nlast_uses 0\n\
@@ -66,8 +114,8 @@ fn the_example() {
 fn the_script_keeps_its_form() {
     let script = cases();
     assert!(script.is_ascii() && script.ends_with('\n') && !script.contains('\r'));
-    assert!(script.len() <= 320_000);
-    assert!((3_000..=12_800).contains(&script.lines().count()));
+    assert!(script.len() <= 365_000);
+    assert!((3_000..=15_000).contains(&script.lines().count()));
     assert_eq!(script, cases());
     for line in script.lines() {
         let words: Vec<&str> = line.split(' ').collect();
@@ -77,7 +125,13 @@ fn the_script_keeps_its_form() {
         let fits = match words[0] {
             "forecast" => words.len() == 2 && list(1) <= 64,
             "build" => words.len() == 3 && number(1) <= 65_600 && list(2) <= 64,
-            "check" | "trim" => words.len() == 1,
+            "build_within" => {
+                words.len() == 5
+                    && number(1) <= 65_535
+                    && (2..4).all(|i| number(i) <= 65_600)
+                    && list(4) <= 64
+            }
+            "check" | "trim" | "swap" => words.len() == 1,
             "run" => words.len() == 4 && number(1) <= 8_200 && list(2) <= 64 && list(3) <= 64,
             "last_uses" => words.len() == 2 && number(1) <= 8_200,
             "encode" => {
@@ -107,9 +161,10 @@ fn each_refusal_of_each_operation_comes_up() {
                 .or_default() += 1;
         }
     }
-    let expected: [(&str, &[u8]); 7] = [
+    let expected: [(&str, &[u8]); 8] = [
         ("forecast", &[1, 2, 3, 4, 5, 6, 7, 8, 9, 10, 25, 26, 28]),
         ("build", &[1, 2, 3, 4, 5, 6, 7, 8, 9, 10, 11, 25, 26, 28]),
+        ("build_within", &[1, 2, 3, 4, 5, 6, 7, 8, 9, 10, 11, 29]),
         ("check", &[2, 3, 4, 5, 12, 13, 14, 15, 16, 17]),
         ("run", &[2, 3, 4, 5, 12, 13, 14, 15, 16, 17, 18, 19, 20]),
         ("last_uses", &[2, 3, 4, 5, 12, 13, 14, 15, 16, 17, 27]),
@@ -179,6 +234,8 @@ fn each_kind_of_answer_comes_up() {
     for (command, start) in [
         ("forecast", "gates "),
         ("build", "gates "),
+        ("build_within", "part 1 "),
+        ("build_within", "part 2 "),
         ("check", "gates "),
         ("trim", "length 0"),
         ("trim", "length 64"),
@@ -229,7 +286,7 @@ fn checked_tables(script: &str, text: &str) -> Vec<(Vec<u8>, Option<u8>)> {
         let mut parts = line.split(' ');
         match parts.next() {
             Some("table") => table = bytes(parts.next().unwrap()),
-            Some("build" | "cut") => table.clear(),
+            Some("build" | "build_within" | "swap" | "cut") => table.clear(),
             Some("set") => {
                 let place: usize = parts.next().unwrap().parse().unwrap();
                 if let Some(byte) = table.get_mut(place) {
@@ -351,29 +408,44 @@ fn each_operand_of_each_kind_is_turned_away() {
     assert_eq!(refused.len(), 14);
 }
 
-/// A run of a table as Build left it.
+/// A run of a table as Build left it, or as the base table or the best step size
+/// was left.
 struct BuiltRun<'a> {
     line: &'a str,
     card: Vec<u8>,
+    /// Whether the table is the one of the second buffer.
+    is_second: bool,
     left: Vec<u8>,
     right: Vec<u8>,
     output: u16,
 }
 
-/// The runs of built tables that have an output.
+/// The runs of built tables that have an output. A call that is turned away leaves
+/// the table that was there, and a length alone alters none.
 fn built_runs<'a>(lines: &[(&'a str, Option<&str>)]) -> Vec<BuiltRun<'a>> {
-    let mut card = Vec::new();
+    // Which table is in an area: its card, and whether it is a second one.
+    let mut area: Option<(Vec<u8>, bool)> = None;
+    let mut second_area = None;
     let mut runs = Vec::new();
     for &(line, answer) in lines {
         let words: Vec<&str> = line.split(' ').collect();
         match words[0] {
-            "build" => card = bytes(words[2]),
-            "table" | "set" | "cut" => card.clear(),
-            "run" if !card.is_empty() => {
-                if let Some(rest) = answer.unwrap().strip_prefix("output ") {
+            "build" if refusal(answer.unwrap()).is_none() => {
+                area = Some((bytes(words[2]), false));
+            }
+            "build_within" if refusal(answer.unwrap()).is_none() => {
+                area = Some((bytes(words[4]), false));
+                second_area = Some((bytes(words[4]), true));
+            }
+            "swap" => std::mem::swap(&mut area, &mut second_area),
+            "table" | "set" => area = None,
+            "run" => {
+                let output = answer.unwrap().strip_prefix("output ");
+                if let (Some((card, is_second)), Some(rest)) = (&area, output) {
                     runs.push(BuiltRun {
                         line,
                         card: card.clone(),
+                        is_second: *is_second,
                         left: bytes(words[2]),
                         right: bytes(words[3]),
                         output: rest.split(',').next().unwrap().parse().unwrap(),
@@ -428,11 +500,16 @@ fn outputs_are_what_the_numbers_say() {
     let mut plain = 0;
     let mut scores = 0;
     let mut shared = BTreeMap::new();
+    let mut seconds = BTreeMap::new();
     for run in built_runs(&lines_with_answers(&script, &text)) {
         let Some(said) = expected_output(&run.card, &run.left, &run.right) else {
             continue;
         };
         assert_eq!(run.output, said, "{}", run.line);
+        if run.is_second {
+            *seconds.entry(said).or_insert(0) += 1;
+            continue;
+        }
         match Card::read(&run.card).unwrap().form {
             Form::Plain => plain += 1,
             Form::Score => scores += 1,
@@ -443,6 +520,7 @@ fn outputs_are_what_the_numbers_say() {
     assert!(scores > 400, "{scores}");
     // Many of either answer.
     assert!(shared[&0] > 100 && shared[&1] > 80, "{shared:?}");
+    assert!(seconds[&0] > 150 && seconds[&1] > 150, "{seconds:?}");
 }
 
 /// Of one to eight conditions none hold and all, and of two to eight a part.
@@ -501,6 +579,35 @@ fn relations_primes_and_conditions_come_up() {
             }
         }
         assert!((1..=8).all(|count| counts.contains(&count)));
+    }
+}
+
+/// Each prime has a second table that is run, with order conditions, and on
+/// numbers for which they hold and do not; each relation does too.
+#[test]
+fn second_tables_of_each_prime_are_run() {
+    let script = cases();
+    let text = answers(&script);
+    let mut relations = BTreeSet::new();
+    let mut outputs = BTreeSet::new();
+    let mut counts = BTreeSet::new();
+    for run in built_runs(&lines_with_answers(&script, &text)) {
+        if run.is_second {
+            let card = Card::read(&run.card).unwrap();
+            counts.insert(card.conditions.len());
+            relations.extend(run.card[6..].chunks(4).map(|record| record[2]));
+            if card.conditions.iter().any(|c| c.relation.is_order()) {
+                outputs.insert((card.p, run.output));
+            }
+        }
+    }
+    assert!(relations.into_iter().eq(1..=6));
+    assert!(counts.into_iter().eq(1..=8));
+    for p in PRIMES {
+        assert!(
+            outputs.contains(&(p, 0)) && outputs.contains(&(p, 1)),
+            "{p}"
+        );
     }
 }
 

@@ -436,7 +436,7 @@ struct Asked {
 fn asked() -> Vec<Asked> {
     let script = cases();
     let text = answers(&script);
-    let mut lines = text.lines().filter(|line| !line.starts_with("build "));
+    let mut lines = text.lines().filter(|line| !line.starts_with("build"));
     let mut asked = Vec::new();
     each_question(&script, |words, table| {
         let (line, answer) = lines.next().unwrap().split_once(": ").unwrap();

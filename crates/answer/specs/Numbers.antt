@@ -1,7 +1,7 @@
 -- The number of each refusal (document 01, "Operations and what they turn away"; document 02, E1, E4 and E6), with the rule that gives it.
 use Prim.Native.Nat.{ℕ}
 use Rattle.answer.specs.declared.Refusal.{Refusal}
-use Rattle.answer.specs.declared.Refusal.the-variants.{CardTooShort, WrongMark, PrimeNotListed, WeightOutOfRange, SpareNotZero, ConditionCount, CardLength, UnknownRelation, DigitCount, TooManyDigits, TableBufferTooSmall, TableHeadTooShort, SlotCount, GateCount, TableTooShort, UnknownKind, WrongOperand, ListLength, ValueTooLarge, WorkBufferTooSmall, OutBufferTooSmall, NumberTooLarge, DigitTooLarge, NumberTooWide, ScoreWeight, TotalWeight, LastUseListTooShort, LeftSlotsOutOfRange}
+use Rattle.answer.specs.declared.Refusal.the-variants.{CardTooShort, WrongMark, PrimeNotListed, WeightOutOfRange, SpareNotZero, ConditionCount, CardLength, UnknownRelation, DigitCount, TooManyDigits, TableBufferTooSmall, TableHeadTooShort, SlotCount, GateCount, TableTooShort, UnknownKind, WrongOperand, ListLength, ValueTooLarge, WorkBufferTooSmall, OutBufferTooSmall, NumberTooLarge, DigitTooLarge, NumberTooWide, ScoreWeight, TotalWeight, LastUseListTooShort, LeftSlotsOutOfRange, DepthAboveCap}
 
 abbrev pub refusalNumber : Refusal → ℕ
 -- card under 6 bytes
@@ -60,3 +60,5 @@ refusalNumber TotalWeight = 26
 refusalNumber LastUseListTooShort = 27
 -- first left slot plus n above 16
 refusalNumber LeftSlotsOutOfRange = 28
+-- neither the base table nor any step size's within the depth cap
+refusalNumber DepthAboveCap = 29

@@ -5,7 +5,7 @@ ghost use Rattle.answer.specs.Numbers.{refusalNumber};
 ghost use Rattle.answer.specs.Report.{costOf};
 
 // Why an operation turns its input away: one name for each number of document 01, "Operations and
-// what they turn away", and of document 02, E1, E4 and E6, in the order of the numbers.
+// what they turn away", and of document 02, E1, E4, E6 and E7, in the order of the numbers.
 pub enum Refusal {
     CardTooShort,
     WrongMark,
@@ -35,6 +35,7 @@ pub enum Refusal {
     TotalWeight,
     LastUseListTooShort,
     LeftSlotsOutOfRange,
+    DepthAboveCap,
 }
 
 // The number of a refusal.
@@ -70,6 +71,7 @@ pub fn refusal_number(why: Refusal) -> u8
         Refusal::TotalWeight => 26,
         Refusal::LastUseListTooShort => 27,
         Refusal::LeftSlotsOutOfRange => 28,
+        Refusal::DepthAboveCap => 29,
     }
 }
 

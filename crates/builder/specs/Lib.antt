@@ -1,4 +1,2 @@
--- Only serves contracts of functions inside: the conditions of a card as they are written, what ends the table, and what is asked before a table is. What Build has to answer is in `query`.
-pub mod Conditions
-pub mod Ending
-pub mod Buildable
+-- Only serves contracts of functions inside: the report on what was written. What Build has to answer is in `query`.
+pub mod Report

@@ -44,7 +44,7 @@ pub record Known (bytes : List ℕ) (head : CardHead) : Type 0 where
   -- the conditions are the card's
   pub conditions : conditionsOf bytes ≡ card .conditions
 
-conditions-are : (bytes : List ℕ) (card : Card) → readCard bytes ≡ accepted card → conditionsOf bytes ≡ card .conditions
+pub conditions-are : (bytes : List ℕ) (card : Card) → readCard bytes ≡ accepted card → conditionsOf bytes ≡ card .conditions
 conditions-are bytes card e = rw e
 
 pub known-as : (bytes : List ℕ) (head : CardHead) → ReadAs bytes head → Known bytes head

@@ -18,7 +18,7 @@ ghost use Rattle.card.specs.Parts.{formIs, formAnswer, questionIs, recor
 ghost use Rattle.card.specs.Conditions.{ReadAs, conditionsOf, Taken, IsRecord, IsWeight};
 
 // For each form the marks of a head and of a record, and the bytes of a record.
-const PLAIN_HEAD: [u8; 2] = [0xC5, 0x48];
+pub const PLAIN_HEAD: [u8; 2] = [0xC5, 0x48];
 
 const PLAIN_RECORD: [u8; 2] = [0xC5, 0x51];
 
@@ -324,7 +324,7 @@ fn limit_sums(head: CardHead, weights: u16) -> CardRead
 }
 
 // What a card says whose form is known, or the first rule that it breaks.
-fn read_formed(card: &[u8], form: Form) -> CardRead
+pub fn read_formed(card: &[u8], form: Form) -> CardRead
     requires { ⌜ headSize ≤ length (now card) ⌝ }
     ensures { λ r. ⌜ cardAnswer r ≡ readFormedSummary (formIs form) (now (card .entry)) ⌝ }
 {

@@ -1,5 +1,6 @@
 // Reads a case script from standard input and prints what the operations answer, a line a case, for
 // comparison with the stored output.
+use answer::Depth;
 use answer::Reported;
 use coding::Decoded;
 use coding::Encoded;
@@ -10,6 +11,7 @@ use runner::Ran;
 use script::Command;
 use script::LIST;
 use script::TABLE;
+use within::Offered;
 ghost use Rattle.io.specs.Counts.{Counts};
 
 // The longest script and the other areas, in bytes.
@@ -138,6 +140,48 @@ fn build(line: &[u8], table: &mut [u8], place: usize, out: &mut [u8]) -> usize {
     put_lent(table, end, out)
 }
 
+fn put_part(which: u64, told: answer::Report, place: usize, out: &mut [u8]) -> usize {
+    let part = put_named(b"part ", which, place, out);
+    let length = put_named(b" length ", 8 * (told.gates as u64 + 1), part, out);
+    let space = put_byte(b' ', length, out);
+    put_counts(told, space, out)
+}
+
+fn put_offered(answer: Offered, place: usize, out: &mut [u8]) -> usize {
+    match answer {
+        Offered::First(told) => put_part(1, told, place, out),
+        Offered::Second(told) => put_part(2, told, place, out),
+        Offered::Refused(why) => put_refusal(why, place, out),
+    }
+}
+
+fn build_within_lent(
+    line: &[u8],
+    first: &mut [u8],
+    second: &mut [u8],
+    place: usize,
+    out: &mut [u8],
+) -> usize {
+    let mut card = [0; LIST];
+    let count = script::put_list(script::word(line, 4), &mut card);
+    let cap = Depth(script::word_of(script::word(line, 1)));
+    let offered = within::build_within(&card[..count], cap, first, second);
+    let end = put_offered(offered, place, out);
+    let one = put_lent(first, end, out);
+    put_lent(second, one, out)
+}
+
+fn build_within(
+    line: &[u8],
+    table: &mut [u8],
+    second: &mut [u8],
+    place: usize,
+    out: &mut [u8],
+) -> usize {
+    let room = script::room_of(script::word(line, 3), second);
+    build_within_lent(line, table, &mut second[..room], place, out)
+}
+
 fn trim(table: &[u8], place: usize, out: &mut [u8]) -> usize {
     put_named(b"length ", checker::trim(table).len() as u64, place, out)
 }
@@ -242,6 +286,7 @@ fn put_answer(
     command: Command,
     line: &[u8],
     table: &mut [u8],
+    second: &mut [u8],
     work: &mut [u8],
     uses: &mut [u16],
     digits: &mut [u8],
@@ -251,6 +296,7 @@ fn put_answer(
     match command {
         Command::Forecast => forecast(line, place, out),
         Command::Build => build(line, table, place, out),
+        Command::BuildWithin => build_within(line, table, second, place, out),
         Command::Check => put_report(checker::check(table), place, out),
         Command::Trim => trim(table, place, out),
         Command::Run => run(line, table, work, place, out),
@@ -271,6 +317,7 @@ fn print_answer(
     command: Command,
     line: &[u8],
     table: &mut [u8],
+    second: &mut [u8],
     work: &mut [u8],
     uses: &mut [u16],
     digits: &mut [u8],
@@ -278,7 +325,7 @@ fn print_answer(
 ) {
     let copied = put(line, 0, out);
     let place = put(b": ", copied, out);
-    let end = put_answer(command, line, table, work, uses, digits, place, out);
+    let end = put_answer(command, line, table, second, work, uses, digits, place, out);
     let count = put_byte(b'\n', end, out);
     print_first(count, out);
 }
@@ -290,12 +337,25 @@ fn set_byte(line: &[u8], table: &mut [u8]) {
     }
 }
 
+// Exchanges the two table areas.
+fn swap(table: &mut [u8], second: &mut [u8]) {
+    let end = script::cut(table.len(), second);
+    let mut i = 0;
+    while i < end {
+        let byte = table[i];
+        table[i] = second[i];
+        second[i] = byte;
+        i += 1;
+    }
+}
+
 // The current length after a command.
 fn next_length(command: Command, line: &[u8], current: usize, table: &[u8]) -> usize
     ensures { λ r. ⌜ Counts r (now (table .entry)) ⌝ }
 {
     match command {
         Command::Build => script::room_of(script::word(line, 1), table),
+        Command::BuildWithin => script::room_of(script::word(line, 2), table),
         Command::Cut => script::room_of(script::word(line, 1), table),
         Command::Table => script::cut(script::word(line, 1).len() / 2, table),
         _ => script::cut(current, table),
@@ -307,6 +367,7 @@ fn carry_out(
     line: &[u8],
     table: &mut [u8],
     current: usize,
+    second: &mut [u8],
     work: &mut [u8],
     uses: &mut [u16],
     digits: &mut [u8],
@@ -320,7 +381,17 @@ fn carry_out(
         }
         Command::Set => set_byte(line, table),
         Command::Cut => {}
-        _ => print_answer(command, line, &mut table[..next], work, uses, digits, out),
+        Command::Swap => swap(table, second),
+        _ => print_answer(
+            command,
+            line,
+            &mut table[..next],
+            second,
+            work,
+            uses,
+            digits,
+            out,
+        ),
     }
     next
 }
@@ -328,6 +399,7 @@ fn carry_out(
 fn carry_out_lines(
     script: &[u8],
     table: &mut [u8],
+    second: &mut [u8],
     work: &mut [u8],
     uses: &mut [u16],
     digits: &mut [u8],
@@ -337,13 +409,23 @@ fn carry_out_lines(
     let mut start = 0;
     while start < script.len() {
         let end = script::find(script, start, b'\n');
-        current = carry_out(&script[start..end], table, current, work, uses, digits, out);
+        current = carry_out(
+            &script[start..end],
+            table,
+            current,
+            second,
+            work,
+            uses,
+            digits,
+            out,
+        );
         start = end + 1;
     }
 }
 
 fn run_script(script: &[u8]) {
     let mut table = [7; TABLE];
+    let mut second = [5; TABLE];
     let mut work = [9; WORK];
     let mut uses = [9; USES];
     let mut digits = [7; DIGITS];
@@ -351,6 +433,7 @@ fn run_script(script: &[u8]) {
     carry_out_lines(
         script,
         &mut table,
+        &mut second,
         &mut work,
         &mut uses,
         &mut digits,

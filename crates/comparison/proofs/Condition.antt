@@ -3,9 +3,9 @@
 use mathlib.Core.Path.{_≡_, refl, sym, ap, ap₂, _∙_}
 use mathlib.Core.Bool.{Bool, true, false}
 use mathlib.Core.List.{List, [], _++_}
-use Prim.Native.Nat.{ℕ, suc, _+_, _-_, _*_, _/_, _%_, _≤_}
+use Prim.Native.Nat.{ℕ, zero, suc, _+_, _-_, _*_, _/_, _%_, _≤_}
 use native.Mathlib.Omega.{arith}
-use native.Mathlib.Nat.{le-of-eq, mul-le-mul-left}
+use native.Mathlib.Nat.{le-of-eq, mul-le-mul-left, suc-mul}
 use lib.ListN.{length, length-append}
 use Rattle.answer.specs.Report.{costOf}
 use Rattle.field.specs.Bit.{bit}
@@ -29,7 +29,7 @@ use Rattle.comparison.specs.Condition.{Condition, unweighed, numberIn}
 use Rattle.comparison.specs.Digits.{orderDigitSize}
 use Rattle.comparison.specs.Formulas.{digitSize, gatesBeforeFlip, productsOf, squaresOf, costSummand}
 use Rattle.comparison.specs.Lawful.{Lawful}
-use Rattle.comparison.specs.Promises.{WeighsNothing, OutputIsLast, ConditionWrites, ConditionFits, ConditionHolds, ConditionTells, ConditionDepth, ConditionSized, ConditionCounts, OrderCost, CostWithin, EqualityTree}
+use Rattle.comparison.specs.Promises.{WeighsNothing, OutputIsLast, SizesDiffer, ConditionWrites, ConditionFits, ConditionHolds, ConditionTells, ConditionDepth, ConditionSized, ConditionCounts, OrderCost, CostWithin, EqualityTree}
 use Rattle.comparison.specs.Relation.{isOrder, isBackward, isFlipped, minuend, subtrahend, tested, flippedIf}
 use Rattle.comparison.specs.Tests.{Tests, baseTests}
 use Rattle.comparison.specs.Writing.{orderSegment, equalitySegment, segmentOf, ending, conditionBy}
@@ -207,6 +207,41 @@ condition-tells p t gates c law two some =
     same : (b : Bool) (v : ℕ) → flipIf depths b v ≡ v
     same true v = refl
     same false v = refl
+
+-- one digit apart from the others
+one-apart : (n e : ℕ) → 1 ≤ n → (n - 1) * e + e ≡ n * e
+one-apart zero e some = absurd (omega arith)
+one-apart (suc n) e some =
+    let less : suc n - 1 ≡ n = omega arith in
+    let more : suc n * e ≡ n * e + e = suc-mul n e in
+    omega (arith, ap (λ (m : ℕ). m * e) less)
+
+body-differs : (p k j : ℕ) (t u : Tests) (c : Condition) (lt : Lawful p t) (lu : Lawful p u) (two : 2 ≤ p) (some : 1 ≤ c .digits) (order : Bool)
+    → let d = elim order as (λ _. ℕ) [ true ↦ c .digits | false ↦ 0 ] in
+    length (bodyOf p t lt two c some k order .gates) + (d * u .less .count + (d - 1) * u .equal .count)
+    ≡ length (bodyOf p u lu two c some j order .gates) + (d * t .less .count + (d - 1) * t .equal .count)
+unfolding orderSegment equalitySegment
+body-differs p k j t u c lt lu two some true =
+    omega (
+      arith,
+      order-size p t lt c some k,
+      order-size p u lu c some j,
+      one-apart (c .digits) (t .equal .count) some,
+      one-apart (c .digits) (u .equal .count) some,
+    )
+body-differs p k j t u c lt lu two some false = omega (arith, equality-length p two c some k, equality-length p two c some j)
+
+pub sizes-differ : SizesDiffer
+unfolding conditionBy
+sizes-differ p k j t u c lt lu two some =
+    let order = isOrder (c .relation) in
+    let b = isFlipped (c .relation) in
+    omega (
+      arith,
+      end-length k (bodyOf p t lt two c some k order) (body-last p t lt two c some k order) b,
+      end-length j (bodyOf p u lu two c some j order) (body-last p u lu two c some j order) b,
+      body-differs p k j t u c lt lu two some order,
+    )
 
 -- ---- the promises: document 01's tests
 

@@ -1,7 +1,7 @@
 -- Digits one after the other, whatever each of them is: where each stands, what they name, how many gates of a sort they have.
 -- By induction on their count.
 -- Assumes nothing.
-use mathlib.Core.Path.{_≡_, sym, ap, subst, _∙_}
+use mathlib.Core.Path.{_≡_, refl, sym, ap, subst, _∙_}
 use mathlib.Core.Bool.{Bool, true}
 use mathlib.Core.List.{List, [], _++_}
 use Prim.Native.Nat.{ℕ, zero, suc, _+_, _-_, _*_, _<_}
@@ -16,7 +16,18 @@ use Rattle.circuit.specs.Table.{Head, allFit}
 use Rattle.circuit.proofs.Count.{count-append}
 use Rattle.circuit.proofs.Fitting.{all-fit, fit-append}
 use Rattle.circuit.proofs.Meaning.{solves-append}
-use Rattle.comparison.specs.Digits.{digitsFrom}
+use Rattle.comparison.specs.Digits.{digitsFrom, unlessLowest}
+
+-- ---- E, of every digit but the lowest
+
+pub lowest-none : (j : ℕ) (gates : List Gate) → j ≡ 0 → unlessLowest j gates ≡ []
+lowest-none j gates e = rw e
+
+pub upper-all : (j : ℕ) (gates : List Gate) → 0 < j → unlessLowest j gates ≡ gates
+upper-all zero gates l = absurd (omega arith)
+upper-all (suc j) gates l = refl
+
+-- ---- digits one after the other
 
 module _ (digit : ℕ → ℕ → List Gate) (start : ℕ → ℕ) where
   -- the digits that are left: the next one, and those after it

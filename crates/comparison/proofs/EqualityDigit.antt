@@ -96,30 +96,29 @@ module _ {A : Type 0} (alg : Algebra A) (Power : A → ℕ → Type 0)
   start-power (true ∷ bs) k z last s n known some =
       chain-power bs k z (power z) 0 1 last s n known (omega arith, omega arith, known) (omega arith)
 
-  zero-power : (p k : ℕ) → 2 ≤ p → Solves alg E (suc (zGate k)) (zeroGates p k) → Power (E (zGate k)) 1
-      → Flips alg Power E (zGate k + length (zeroGates p k)) (p - 1)
-  zero-power p k h s known =
+  zero-power : (p k z last : ℕ) → 2 ≤ p → Solves alg E k (zeroChain (bits (p - 1)) k z)
+      → suc last ≡ k + length (zeroChain (bits (p - 1)) k z) → Power (E z) 1 → Flips alg Power E last (p - 1)
+  zero-power p k z last h s n known =
       let t = p - 1 in
-      subst (Flips alg Power E _) (bits-worth t)
-      (start-power (bits t) (suc (zGate k)) (zGate k) _ s (omega arith) known (omega (arith, bits-worth t)))
+      subst (Flips alg Power E _) (bits-worth t) (start-power (bits t) k z last s n known (omega (arith, bits-worth t)))
 
--- ---- value and depth
+-- ---- value and depth, of the chain from gate number k on over any gate z
 
-pub zero-value : (p : ℕ) (left right : List ℕ) (E : ℕ → ℕ) (k : ℕ) → 2 ≤ p
-    → Solves (values p left right) E (suc (zGate k)) (zeroGates p k)
-    → E (zGate k + length (zeroGates p k)) ≡ zeroTest p (E (zGate k))
-zero-value p left right E k h s =
-    let found = zero-power (values p left right) IsPower multiplied E p k h s (mod-same p (sym once)) in
+pub chain-value : (p : ℕ) (left right : List ℕ) (E : ℕ → ℕ) (k z last : ℕ) → 2 ≤ p
+    → Solves (values p left right) E k (zeroChain (bits (p - 1)) k z) → suc last ≡ k + length (zeroChain (bits (p - 1)) k z)
+    → E last ≡ zeroTest p (E z)
+chain-value p left right E k z last h s n =
+    let found = zero-power (values p left right) IsPower multiplied E p k z last h s n (mod-same p (sym once)) in
     found .flips ∙ sub-cong p 1 _ _ some (found .holds)
   where
     some : 0 < p
     some = omega arith
 
-    once : E (zGate k) ^ 1 ≡ E (zGate k)
+    once : E z ^ 1 ≡ E z
     once = pow-succ' _ 0 ∙ simp (pow-zero, mul-one)
 
     IsPower : ℕ → ℕ → Type 0
-    IsPower x e = x % p ≡ (E (zGate k) ^ e) % p
+    IsPower x e = x % p ≡ (E z ^ e) % p
 
     multiplied : (a b e j : ℕ) → 1 ≤ e → e ≤ 2 ^ j → IsPower a e → IsPower b (2 ^ j) → IsPower (residue p (a * b)) (e + 2 ^ j)
     multiplied a b e j l m f g =
@@ -132,10 +131,10 @@ deeper a b e j l m f g =
     let low = clog-is-ceiling e j .0 m in
     rw (max-eq-right {n = a} {m = b} (omega arith)) (omega (arith, clog-between (e + 2 ^ j) j (omega arith) (omega arith)))
 
-pub zero-depth : (E : ℕ → ℕ) (p k : ℕ) → 2 ≤ p → Solves depths E (suc (zGate k)) (zeroGates p k) → E (zGate k) ≡ 0
-    → E (zGate k + length (zeroGates p k)) ≡ clog (p - 1)
-zero-depth E p k h s known =
-    let found = zero-power depths (λ x e. x ≡ clog e) deeper E p k h s (known ∙ sym (clog-small 1 (le-refl 1))) in
+pub chain-depth : (E : ℕ → ℕ) (p k z last : ℕ) → 2 ≤ p → Solves depths E k (zeroChain (bits (p - 1)) k z)
+    → suc last ≡ k + length (zeroChain (bits (p - 1)) k z) → E z ≡ 0 → E last ≡ clog (p - 1)
+chain-depth E p k z last h s n known =
+    let found = zero-power depths (λ x e. x ≡ clog e) deeper E p k z last h s n (known ∙ sym (clog-small 1 (le-refl 1))) in
     found .flips ∙ found .holds
 
 -- ---- what the gates name
@@ -161,8 +160,8 @@ start-fitted head [] k z l = (l, tt)
 start-fitted head (false ∷ bs) k z l = chain-fitted head bs k z nothing l l
 start-fitted head (true ∷ bs) k z l = chain-fitted head bs k z (power z) l l
 
-pub zero-fits : (head : Head) (p k : ℕ) → allFit head (suc (zGate k)) (zeroGates p k) ≡ true
-zero-fits head p k = all-fit head _ _ (start-fitted head (bits (p - 1)) _ (zGate k) (le-refl _))
+pub chain-fits : (head : Head) (p k z : ℕ) → z < k → allFit head k (zeroChain (bits (p - 1)) k z) ≡ true
+chain-fits head p k z l = all-fit head _ _ (start-fitted head (bits (p - 1)) k z l)
 
 -- ---- how many there are
 
@@ -187,12 +186,15 @@ start-length [] k z some = absurd (omega arith)
 start-length (false ∷ bs) k z some = omega (arith, chain-length bs k z nothing)
 start-length (true ∷ bs) k z some = omega (arith, chain-length bs k z (power z))
 
-pub zero-length : (p k : ℕ) → 2 ≤ p → length (zeroGates p k) ≡ flog (p - 1) + ones (p - 1)
+pub chain-size : (p k z : ℕ) → 2 ≤ p → length (zeroChain (bits (p - 1)) k z) ≡ flog (p - 1) + ones (p - 1)
 unfolding ones
-zero-length p k h =
+chain-size p k z h =
     let t = p - 1 in
     let some : 1 ≤ t = omega arith in
-    omega (arith, start-length (bits t) (suc (zGate k)) (zGate k) (ones-some t some), bits-length t some)
+    omega (arith, start-length (bits t) k z (ones-some t some), bits-length t some)
+
+pub zero-length : (p k : ℕ) → 2 ≤ p → length (zeroGates p k) ≡ flog (p - 1) + ones (p - 1)
+zero-length p k h = chain-size p (suc (zGate k)) (zGate k) h
 
 -- no power that is collected is multiplied by itself
 chain-count : (bs : List Bool) (k running : ℕ) (c : Collected) → heldBy c running < k

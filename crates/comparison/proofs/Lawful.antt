@@ -4,6 +4,7 @@ use mathlib.Core.Path.{_≡_, refl, ap, _∙_}
 use mathlib.Core.List.{_++_}
 use Prim.Native.Nat.{ℕ, suc, _+_, _-_}
 use native.Mathlib.Omega.{arith}
+use native.Mathlib.Nat.{le-refl}
 use lib.ListN.{length}
 use Rattle.circuit.specs.Depth.{depths}
 use Rattle.circuit.specs.Meaning.{Algebra, Solves}
@@ -14,7 +15,7 @@ use Rattle.comparison.specs.Lawful.{BaseLawful, EqualityLawful}
 use Rattle.comparison.specs.OrderDigit.{lessGates, equalGates}
 use Rattle.comparison.specs.Tests.{noTest, testNode, baseTests, equalityTest}
 use Rattle.comparison.proofs.Bits.{ones-some}
-use Rattle.comparison.proofs.EqualityDigit.{zero-length, zero-fits, zero-value, zero-depth}
+use Rattle.comparison.proofs.EqualityDigit.{chain-size, chain-fits, chain-value, chain-depth}
 use Rattle.comparison.proofs.OrderDigit.{equalGate, less-length, less-fits, equal-fits, less-value, equal-value, less-depth, equal-depth}
 
 -- the gate of a test that follows z
@@ -54,15 +55,15 @@ base-lawful p three odd = record {
 
 pub equality-lawful : EqualityLawful
 equality-lawful p two = record {
-  size = λ k. zero-length p k two;
+  size = λ k. chain-size p (suc (zGate k)) (zGate k) two;
   some = omega (arith, ones-some (p - 1) (omega arith));
-  fits = λ head k prime. rw (after k) (zero-fits head p k);
-  value = λ left right E k s. ap E (last k) ∙ zero-value p left right E k two s;
-  tells = λ E k s flat. ap E (last k) ∙ zero-depth E p k two s flat;
+  fits = λ head k prime. rw (after k) (chain-fits head p (suc (zGate k)) (zGate k) (le-refl _));
+  value = λ left right E k s. ap E (last k) ∙ chain-value p left right E (suc (zGate k)) (zGate k) _ two s (omega arith);
+  tells = λ E k s flat. ap E (last k) ∙ chain-depth E p (suc (zGate k)) (zGate k) _ two s (omega arith) flat;
 }
   where
     after : (k : ℕ) → suc (zGate k + 0) ≡ suc (zGate k)
     after k = omega arith
 
     last : (k : ℕ) → testNode noTest (equalityTest p) k .gate ≡ zGate k + length (equalityTest p .gates k)
-    last k = omega (arith, zero-length p k two)
+    last k = omega (arith, chain-size p (suc (zGate k)) (zGate k) two)

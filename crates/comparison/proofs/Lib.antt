@@ -1,5 +1,6 @@
 -- Laws that other crates cite.
 pub mod Mapped
+pub mod LowPowers
 pub mod Powers
 pub mod PowersCount
 pub mod Terms
@@ -17,6 +18,7 @@ pub mod OrderCondition
 pub mod EqualityCondition
 pub mod Relations
 pub mod Condition
+pub mod Deeper
 pub mod DifferenceNetwork
 pub mod DigitsNetwork
 pub mod OrderNetwork

@@ -3,27 +3,26 @@
 -- Over any entries that solve the gates a power is the product of the powers of its halves (`low-step`, `odd-step`, `last-step`);
 -- values and depths follow by halving the exponent.
 -- Assumes nothing.
-use mathlib.Core.Path.{_≡_, sym, ap, _∙_}
+use mathlib.Core.Path.{_≡_, ap, _∙_}
 use mathlib.Core.Logic.{_⊎_, inl, inr}
 use mathlib.Core.List.{List, [], _∷_, _++_, map}
-use Prim.Native.Nat.{ℕ, zero, suc, _+_, _-_, _*_, _/_, _%_, _^_, _≤_, _<_}
+use Prim.Native.Nat.{ℕ, suc, _+_, _-_, _/_, _%_, _^_, _≤_, _<_}
 use native.Mathlib.Omega.{arith}
 use native.Mathlib.Decide.{decLe}
-use native.Mathlib.Nat.{lt-of-not-le, mod-mod, pow-suc, pow-zero, one-mul}
+use native.Mathlib.Nat.{lt-of-not-le}
 use borrow.Author.Tests.{le-leb, lt-leb}
 use lib.ListN.{length, length-map, length-append, getD}
-use lib.Pow.{pow-add}
 use Rattle.field.specs.Half.{half}
 use Rattle.field.specs.Logarithm.{clog}
-use Rattle.field.proofs.Logarithm.{clog-half, clog-small, clog-mono}
-use Rattle.field.proofs.Modular.{mod-same, mul-cong, mulMod-is}
+use Rattle.field.proofs.Modular.{mod-same}
 use Rattle.field.proofs.OrderConstants.{length-second, second-at}
 use Rattle.circuit.specs.Depth.{depths}
 use Rattle.circuit.specs.Meaning.{Algebra, meaning, Solves}
 use Rattle.circuit.specs.Value.{values}
 use Rattle.circuit.proofs.Meaning.{solves-append}
 use Rattle.comparison.specs.OrderDigit.{lowExponents, nextOdd, oddExponents, lowPower, powerOf, powers, powerCount, powerGate}
-use Rattle.comparison.proofs.Mapped.{solves-map, length-ascending, ascending-at}
+use Rattle.comparison.proofs.LowPowers.{lowPowers, low-length, power-mul, low-value, power-deep, low-depth}
+use Rattle.comparison.proofs.Mapped.{solves-map}
 
 -- the exponents that the terms ask for: odd ones up to p - 2, and p - 1
 abbrev pub Asked : ℕ → ℕ → Type 0
@@ -48,9 +47,6 @@ pub gate-high : (p z i : ℕ) → half p < i → powerGate p z i ≡ z + half p 
 unfolding powerGate
 gate-high p z i l = rw (lt-leb i (half p) l, powerGate)
 
-pub low-length : (p z : ℕ) → length (map (powerOf z) (lowExponents p)) ≡ half p - 1
-low-length p z = length-map (lowExponents p) (powerOf z) ∙ length-ascending (half p - 1) 2
-
 -- as many as half of (p-1)/2
 pub odd-count : (p : ℕ) → p % 2 ≡ 1 → length (oddExponents p) ≡ half p / 2
 odd-count p odd = length-second _ _ ∙ omega arith
@@ -61,7 +57,7 @@ odd-length p z odd = length-map (oddExponents p) (powerOf z) ∙ odd-count p odd
 pub powers-length : (p z : ℕ) → 3 ≤ p → p % 2 ≡ 1 → length (powers p z) ≡ powerCount p
 powers-length p z three odd =
     length-append (map (powerOf z) (lowExponents p)) _
-    ∙ omega (arith, low-length p z, odd-length p z odd, length-append (map (powerOf z) (oddExponents p)) (powerOf z (p - 1) ∷ []))
+    ∙ omega (arith, low-length (half p) z, odd-length p z odd, length-append (map (powerOf z) (oddExponents p)) (powerOf z (p - 1) ∷ []))
 
 -- ---- what they are, over any entries
 
@@ -73,18 +69,11 @@ module _ {A : Type 0} (alg : Algebra A) (E : ℕ → A) (p z : ℕ) (three : 3 �
 
   after-low : Solves alg E (z + half p) (map (powerOf z) (oddExponents p) ++ (powerOf z (p - 1) ∷ []))
   after-low =
-      let e : suc z + length (map (powerOf z) (lowExponents p)) ≡ z + half p = omega (arith, low-length p z) in
+      let e : suc z + length (map (powerOf z) (lowExponents p)) ≡ z + half p = omega (arith, low-length (half p) z) in
       rw e at (solves-append alg E (map (powerOf z) (lowExponents p)) _ (suc z) h .1)
 
-  low-step : (i : ℕ) → 2 ≤ i → i ≤ half p → E (lowPower z i) ≡ halved i
-  low-step i two l =
-      let m = i - 2 in
-      let place : m < length (lowExponents p) = omega (arith, length-ascending (half p - 1) 2) in
-      let e : getD (lowExponents p) m 0 ≡ i = ascending-at (half p - 1) 2 m (omega arith) ∙ omega arith in
-      ap E (omega arith)
-      ∙ solves-map alg E (powerOf z) (lowExponents p) (suc z)
-      (solves-append alg E (map (powerOf z) (lowExponents p)) _ (suc z) h .0) m place
-      ∙ ap (λ (x : ℕ). meaning alg E (powerOf z x)) e
+  pub below-half : Solves alg E (suc z) (lowPowers (half p) z)
+  below-half = solves-append alg E (map (powerOf z) (lowExponents p)) _ (suc z) h .0
 
   odd-step : (i : ℕ) → i % 2 ≡ 1 → half p < i → i < p - 1 → E (powerGate p z i) ≡ halved i
   odd-step i o l u =
@@ -111,66 +100,33 @@ module _ {A : Type 0} (alg : Algebra A) (E : ℕ → A) (p z : ℕ) (three : 3 �
 
 module _ (left right : List ℕ) (E : ℕ → ℕ) (p z : ℕ) (three : 3 ≤ p) (odd : p % 2 ≡ 1)
     (h : Solves (values p left right) E (suc z) (powers p z)) where
-  -- a product of two powers of z
-  power-mul : (a b i : ℕ) (x y : ℕ) → a + b ≡ i → x % p ≡ (E z ^ a) % p → y % p ≡ (E z ^ b) % p
-      → values p left right .mul x y % p ≡ (E z ^ i) % p
-  power-mul a b i x y e hx hy =
-      mod-same p (mulMod-is p x y (omega arith)) ∙ mod-mod (x * y) p
-      ∙ mul-cong p x (E z ^ a) y (E z ^ b) hx hy
-      ∙ mod-same p (sym (pow-add (E z) a b) ∙ ap (λ (n : ℕ). E z ^ n) e)
-
-  low-value : (most i : ℕ) → i ≤ most → 1 ≤ i → i ≤ half p → E (lowPower z i) % p ≡ (E z ^ i) % p
-  low-value zero i m one l = absurd (omega arith)
-  low-value (suc most) zero m one l = absurd (omega arith)
-  low-value (suc most) (suc zero) m one l =
-      mod-same p (ap E (omega arith) ∙ sym (pow-suc (E z) 0 ∙ ap (λ (n : ℕ). n * E z) (pow-zero (E z)) ∙ one-mul (E z)))
-  low-value (suc most) (suc (suc j)) m one l =
-      let i = suc (suc j) in
-      mod-same p (low-step (values p left right) E p z three odd h i (omega arith) l)
-      ∙ power-mul (i / 2) ((i + 1) / 2) i _ _ (omega arith)
-      (low-value most (i / 2) (omega arith) (omega arith) (omega arith))
-      (low-value most ((i + 1) / 2) (omega arith) (omega arith) (omega arith))
+  low : (i : ℕ) → 1 ≤ i → i ≤ half p → E (lowPower z i) % p ≡ (E z ^ i) % p
+  low = low-value left right E p (omega arith) (half p) z (below-half (values p left right) E p z three odd h)
 
   pub power-value : (i : ℕ) → 1 ≤ i → Asked p i → E (powerGate p z i) % p ≡ (E z ^ i) % p
   power-value i one asked = go (decLe i (half p))
     where
       go : Dec (i ≤ half p) → E (powerGate p z i) % p ≡ (E z ^ i) % p
-      go (yes l) = rw (gate-low p z i l) (low-value i i (omega arith) one l)
+      go (yes l) = rw (gate-low p z i l) (low i one l)
       go (no n) =
           let top : i ≤ p - 1 = asked-top p i asked in
           mod-same p (high-step (values p left right) E p z three odd h i asked (lt-of-not-le n))
-          ∙ power-mul (i / 2) ((i + 1) / 2) i _ _ (omega arith)
-          (low-value (i / 2) (i / 2) (omega arith) (omega arith) (omega arith))
-          (low-value ((i + 1) / 2) ((i + 1) / 2) (omega arith) (omega arith) (halves-low p i odd asked))
+          ∙ power-mul left right p (E z) (omega arith) (i / 2) ((i + 1) / 2) i _ _ (omega arith)
+          (low (i / 2) (omega arith) (omega arith)) (low ((i + 1) / 2) (omega arith) (halves-low p i odd asked))
 
 -- ---- depths
 
--- a product of the powers of the halves
-pub power-deep : (i x y : ℕ) → 2 ≤ i → x ≡ clog (i / 2) → y ≡ clog ((i + 1) / 2) → depths .mul x y ≡ clog i
-power-deep i x y two hx hy =
-    let shallow : clog (i / 2) ≤ clog ((i + 1) / 2) = clog-mono (omega arith) in
-    omega (arith, clog-half i two)
-
 module _ (E : ℕ → ℕ) (p z : ℕ) (three : 3 ≤ p) (odd : p % 2 ≡ 1) (h : Solves depths E (suc z) (powers p z)) (flat : E z ≡ 0) where
-  low-depth : (most i : ℕ) → i ≤ most → 1 ≤ i → i ≤ half p → E (lowPower z i) ≡ clog i
-  low-depth zero i m one l = absurd (omega arith)
-  low-depth (suc most) zero m one l = absurd (omega arith)
-  low-depth (suc most) (suc zero) m one l = ap E (omega arith) ∙ flat ∙ sym (clog-small 1 (omega arith))
-  low-depth (suc most) (suc (suc j)) m one l =
-      let i = suc (suc j) in
-      low-step depths E p z three odd h i (omega arith) l
-      ∙ power-deep i _ _ (omega arith)
-      (low-depth most (i / 2) (omega arith) (omega arith) (omega arith))
-      (low-depth most ((i + 1) / 2) (omega arith) (omega arith) (omega arith))
+  low-deep : (i : ℕ) → 1 ≤ i → i ≤ half p → E (lowPower z i) ≡ clog i
+  low-deep = low-depth E (half p) z (below-half depths E p z three odd h) flat
 
   pub power-depth : (i : ℕ) → 1 ≤ i → Asked p i → E (powerGate p z i) ≡ clog i
   power-depth i one asked = go (decLe i (half p))
     where
       go : Dec (i ≤ half p) → E (powerGate p z i) ≡ clog i
-      go (yes l) = rw (gate-low p z i l) (low-depth i i (omega arith) one l)
+      go (yes l) = rw (gate-low p z i l) (low-deep i one l)
       go (no n) =
           let top : i ≤ p - 1 = asked-top p i asked in
           high-step depths E p z three odd h i asked (lt-of-not-le n)
           ∙ power-deep i _ _ (omega arith)
-          (low-depth (i / 2) (i / 2) (omega arith) (omega arith) (omega arith))
-          (low-depth ((i + 1) / 2) ((i + 1) / 2) (omega arith) (omega arith) (halves-low p i odd asked))
+          (low-deep (i / 2) (omega arith) (omega arith)) (low-deep ((i + 1) / 2) (omega arith) (halves-low p i odd asked))

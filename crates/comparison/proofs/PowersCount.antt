@@ -17,14 +17,11 @@ use Rattle.circuit.specs.Table.{Head, allFit}
 use Rattle.circuit.proofs.Count.{count-append}
 use Rattle.circuit.proofs.Fitting.{all-fit, fit-append}
 use Rattle.comparison.specs.OrderDigit.{ascending, lowExponents, nextOdd, oddExponents, lowPower, powerOf, powers}
-use Rattle.comparison.proofs.Mapped.{fit-map, length-ascending, ascending-at}
-use Rattle.comparison.proofs.Powers.{low-length, odd-count}
+use Rattle.comparison.proofs.Mapped.{fit-map}
+use Rattle.comparison.proofs.LowPowers.{low-length, low-fits}
+use Rattle.comparison.proofs.Powers.{odd-count}
 
 -- ---- what they name
-
-low-fit : (head : Head) (p z : ℕ) → allFit head (suc z) (map (powerOf z) (lowExponents p)) ≡ true
-low-fit head p z = fit-map head (powerOf z) (lowExponents p) (suc z) (λ m l.
-    let e = ascending-at (half p - 1) 2 m (omega (arith, length-ascending (half p - 1) 2)) in omega arith)
 
 odd-fit : (head : Head) (p z : ℕ) → 3 ≤ p → p % 2 ≡ 1 → allFit head (z + half p) (map (powerOf z) (oddExponents p)) ≡ true
 odd-fit head p z three odd = fit-map head (powerOf z) (oddExponents p) (z + half p) (λ m l.
@@ -36,8 +33,8 @@ pub powers-fit : (head : Head) (p z : ℕ) → 3 ≤ p → p % 2 ≡ 1 → allFi
 powers-fit head p z three odd =
     let low = map (powerOf z) (lowExponents p) in
     let odds = map (powerOf z) (oddExponents p) in
-    let after : suc z + length low ≡ z + half p = omega (arith, low-length p z) in
-    fit-append head (suc z) low _ (low-fit head p z)
+    let after : suc z + length low ≡ z + half p = omega (arith, low-length (half p) z) in
+    fit-append head (suc z) low _ (low-fits head (half p) z)
     (rw after (fit-append head (z + half p) odds _ (odd-fit head p z three odd)
     (all-fit head (z + half p + length odds) (powerOf z (p - 1) ∷ []) (omega arith))))
 

@@ -7,6 +7,7 @@ use Rattle.answer.specs.Report.{costOf}
 use Rattle.comparison.specs.Bits.{ones}
 use Rattle.comparison.specs.Condition.{Condition}
 use Rattle.comparison.specs.Relation.{Relation, isOrder, isFlipped}
+use Rattle.comparison.specs.Tests.{Tests}
 
 -- ---- gates: "per order condition n(p+4+(p-3)/2+floor((p-1)/4)) + 4(n-1) - flog(n)";
 -- "per equality condition n(3+flog(t)+ones(t)) + n-1", where t = p-1
@@ -30,6 +31,15 @@ endedSize r joined = joined + bit (isFlipped r)
 
 abbrev pub conditionSize : ℕ → Condition → ℕ
 conditionSize p c = endedSize (c .relation) (gatesBeforeFlip (isOrder (c .relation)) p (c .digits))
+
+-- ---- gates by any tests of the order digits: those of L in each order digit, and those of E in each but the lowest
+
+-- the order digits of a condition
+abbrev pub orderDigitsIn : Condition → ℕ
+orderDigitsIn c = elim (isOrder (c .relation)) [ true ↦ c .digits | false ↦ 0 ]
+
+abbrev pub testGates : Tests → Condition → ℕ
+testGates t c = orderDigitsIn c * t .less .count + (orderDigitsIn c - 1) * t .equal .count
 
 -- ---- products
 

@@ -1,6 +1,6 @@
 -- What is proved of one condition, for any n from 1 on, written after any gates; where truth is claimed, for every odd prime p:
 -- by any lawful tests of its order digits, and by document 01's.
--- Proved in `proofs/Condition.antt`.
+-- Proved in `proofs/Condition.antt` and `proofs/Deeper.antt`.
 use mathlib.Core.Path.{_≡_}
 use mathlib.Core.Bool.{true}
 use mathlib.Core.List.{List, _++_}
@@ -19,7 +19,7 @@ use Rattle.circuit.specs.TreePromises.{TwoLeast}
 use Rattle.circuit.specs.Value.{values}
 use Rattle.comparison.specs.Condition.{Condition, unweighed, HasSlots, holds}
 use Rattle.comparison.specs.Digits.{equalityDigits}
-use Rattle.comparison.specs.Formulas.{conditionSize, conditionProducts, conditionSquares, conditionCost, costSummand}
+use Rattle.comparison.specs.Formulas.{testGates, conditionSize, conditionProducts, conditionSquares, conditionCost, costSummand}
 use Rattle.comparison.specs.Lawful.{Lawful}
 use Rattle.comparison.specs.Relation.{isOrder}
 use Rattle.comparison.specs.Tests.{Tests}
@@ -30,6 +30,12 @@ use Rattle.comparison.specs.Writing.{equalityFactors, equalityJoining, c
 -- a condition's gates are the same whatever it weighs
 abbrev pub WeighsNothing : Type 0
 WeighsNothing = (t : Tests) (p : ℕ) (c : Condition) (k : ℕ) → conditionBy t p (unweighed c) k ≡ conditionBy t p c k
+
+-- by deeper tests it is at least as deep
+abbrev pub DeeperTests : Type 0
+DeeperTests =
+    (p k j : ℕ) (t u : Tests) (c : Condition) → 2 ≤ p → 1 ≤ c .digits → t .less .depth ≤ u .less .depth → t .equal .depth ≤ u .equal .depth
+    → conditionBy t p c k .output .depth ≤ conditionBy u p c j .output .depth
 
 -- ---- by any lawful tests
 
@@ -65,6 +71,12 @@ ConditionTells =
     (p : ℕ) (t : Tests) (gates : List Gate) (c : Condition) → Lawful p t → 2 ≤ p → 1 ≤ c .digits
     → let written = conditionBy t p c (length gates) in
     entryAt depths (gates ++ written .gates) (written .output .gate) ≡ written .output .depth
+
+-- written by two tests it differs by their gates alone, wherever it is written
+abbrev pub SizesDiffer : Type 0
+SizesDiffer =
+    (p k j : ℕ) (t u : Tests) (c : Condition) → Lawful p t → Lawful p u → 2 ≤ p → 1 ≤ c .digits
+    → length (conditionBy t p c k .gates) + testGates u c ≡ length (conditionBy u p c j .gates) + testGates t c
 
 -- ---- by document 01's
 

@@ -5,20 +5,21 @@
 use mathlib.Core.Path.{_≡_, refl, sym, ap, ap₂, _∙_}
 use mathlib.Core.Bool.{Bool, true, false, true≢false}
 use mathlib.Core.List.{List, _∷_}
-use Prim.Native.Nat.{ℕ, _+_, _%_, _≤_}
+use Prim.Native.Nat.{ℕ, _+_, _*_, _≤_}
 use native.Mathlib.Omega.{arith}
 use lib.ListN.{length, length-append}
 use Rattle.field.specs.Bit.{bit}
+use Rattle.field.specs.Logarithm.{flog}
 use Rattle.circuit.specs.Gate.{Gate, Left, Right}
 use Rattle.circuit.specs.Segment as segment
 use Rattle.comparison.specs.Condition.{Condition}
 use Rattle.comparison.specs.Difference.{minus}
-use Rattle.comparison.specs.Digits.{digitsFrom, orderTests, orderStart, equalityStart}
-use Rattle.comparison.specs.Formulas.{gatesBeforeFlip}
+use Rattle.comparison.specs.Digits.{digitsFrom, orderTests, orderDigitSize, orderStart, equalityStart}
+use Rattle.comparison.specs.Lawful.{Lawful}
 use Rattle.comparison.specs.Relation.{Relation, Less, AtMost, Greater, AtLeast, Equal, NotEqual, isOrder, isBackward, isFlipped}
-use Rattle.comparison.specs.Tests.{Tests, baseTests, equalityTest}
-use Rattle.comparison.specs.Writing.{orderJoining, orderSegment, equalityJoining, equalitySegment, ending, conditionBy, conditionSegment}
-use Rattle.comparison.proofs.OrderCondition.{order-length}
+use Rattle.comparison.specs.Tests.{Tests, equalityTest}
+use Rattle.comparison.specs.Writing.{orderJoining, orderSegment, equalityJoining, equalitySegment, ending, conditionBy}
+use Rattle.comparison.proofs.OrderCondition.{order-size}
 use Rattle.order.specs.Slots.{orderRelation, orderCondition}
 use Rattle.equality.specs.Slots.{equalityCondition}
 use Rattle.writer.specs.declared.Node.{Node}
@@ -56,13 +57,13 @@ order-side : (b : Bool) → b ≡ isBackward (orderRelation b)
 order-side true = refl
 order-side false = refl
 
-pub order-is : (p : ℕ) (r : Relation) (slots : Slots) (k : ℕ) (flipped backward : Bool) → isOrder r ≡ true → flipped ≡ isFlipped r
+pub order-is : (t : Tests) (p : ℕ) (r : Relation) (slots : Slots) (k : ℕ) (flipped backward : Bool) → isOrder r ≡ true → flipped ≡ isFlipped r
     → backward ≡ isBackward r
-    → conditionSegment p (conditionOn r slots) k ≡ ended flipped k (orderSegment (baseTests p) (orderCondition backward slots) k)
+    → conditionBy t p (conditionOn r slots) k ≡ ended flipped k (orderSegment t (orderCondition backward slots) k)
 unfolding conditionBy
-order-is p r slots k flipped backward order flips side =
+order-is t p r slots k flipped backward order flips side =
     rw (order, flips)
-    (ap (ended (isFlipped r) k) (order-same (baseTests p) r (orderRelation backward) slots k (sym side ∙ order-side backward)))
+    (ap (ended (isFlipped r) k) (order-same t r (orderRelation backward) slots k (sym side ∙ order-side backward)))
 
 -- equality relations subtract the right side
 forwards : (r : Relation) → isOrder r ≡ false → isBackward r ≡ false
@@ -73,10 +74,10 @@ forwards AtLeast o = absurd (true≢false o)
 forwards Equal o = refl
 forwards NotEqual o = refl
 
-pub equality-is : (p : ℕ) (r : Relation) (slots : Slots) (k : ℕ) (flipped : Bool) → isOrder r ≡ false → flipped ≡ isFlipped r
-    → conditionSegment p (conditionOn r slots) k ≡ ended flipped k (equalitySegment p (equalityCondition slots) k)
+pub equality-is : (t : Tests) (p : ℕ) (r : Relation) (slots : Slots) (k : ℕ) (flipped : Bool) → isOrder r ≡ false → flipped ≡ isFlipped r
+    → conditionBy t p (conditionOn r slots) k ≡ ended flipped k (equalitySegment p (equalityCondition slots) k)
 unfolding conditionBy
-equality-is p r slots k flipped order flips = rw (order, flips) (ap (ended (isFlipped r) k) (equality-same p r Equal slots k (forwards r order)))
+equality-is t p r slots k flipped order flips = rw (order, flips) (ap (ended (isFlipped r) k) (equality-same p r Equal slots k (forwards r order)))
 
 -- ---- the FLIP at the end
 
@@ -106,14 +107,21 @@ module _ (pen : Pen) (flipped : Bool) (part whole : segment.Segment) (e : whole 
 
 -- ---- as many gates, whichever side is subtracted
 
-module _ (p : ℕ) (c d : Condition) (same : c .digits ≡ d .digits) (pen : Pen) (three : 3 ≤ p) (odd : p % 2 ≡ 1) (some : 1 ≤ c .digits) where
+module _ (p : ℕ) (t : Tests) (law : Lawful p t) (c d : Condition) (same : c .digits ≡ d .digits) (pen : Pen) (some : 1 ≤ c .digits) where
   abbrev sizeOf : Condition → ℕ
-  sizeOf by = length (orderSegment (baseTests p) by (pen .next) .gates)
+  sizeOf by = length (orderSegment t by (pen .next) .gates)
 
   same-size : sizeOf c ≡ sizeOf d
+  unfolding orderSegment
   same-size =
-      order-length p three odd c some (pen .next) ∙ ap (gatesBeforeFlip true p) same
-      ∙ sym (order-length p three odd d (omega arith) (pen .next))
+      let size = orderDigitSize t in
+      omega (
+        arith,
+        order-size p t law c some (pen .next),
+        order-size p t law d (omega arith) (pen .next),
+        ap (λ (n : ℕ). size * n) same,
+        ap flog same,
+      )
 
   pub either-room : (table : List ℕ) → Room table pen (sizeOf c) → Room table pen (sizeOf d)
   either-room table room = rw same-size at room

@@ -102,14 +102,14 @@ fn put_collected(table: &mut [u8], first: Written, later: u16) -> Written
     }
 }
 
-// 1 - z^(p-1) of the gate z before the pen.
-fn put_zero_test(table: &mut [u8], pen: Pen, p: u16) -> Written
-    requires { ⌜ Room (now table) pen (equalityTest p .count) × (1 ≤ pen .next) × Modulus p ⌝ }
-    ensures wrote { λ r. ⌜ Wrote (now (table .entry)) pen (zeroChain (bits (p - 1)) (pen .next) (pen .next - 1)) (now (table .exit)) (r .pen) ⌝ }
+// 1 - z^(p-1) of the gate z.
+pub fn put_zero_test(table: &mut [u8], pen: Pen, z: u16, p: u16) -> Written
+    requires { ⌜ Room (now table) pen (equalityTest p .count) × Modulus p ⌝ }
+    ensures wrote { λ r. ⌜ Wrote (now (table .entry)) pen (zeroChain (bits (p - 1)) (pen .next) z) (now (table .exit)) (r .pen) ⌝ }
     ensures moves { λ r. ⌜ Moved pen (equalityTest p .count) (r .pen) ⌝ }
     ensures deepens { λ r. ⌜ (r .node .gate + 1 ≡ r .pen .next) × (r .node .depth ≡ digitDepth p) ⌝ }
 {
-    let first = put_squares(table, pen, pen.next - 1, p - 1);
+    let first = put_squares(table, pen, z, p - 1);
     put_collected(table, first.power, first.rest)
 }
 
@@ -120,8 +120,8 @@ fn put_equality_digit(table: &mut [u8], pen: Pen, p: u16, left: u16, right: u16)
     ensures moves { λ r. ⌜ Moved pen (equalityDigitSize p) (r .pen) ⌝ }
     ensures deepens { λ r. ⌜ (r .node .gate + 1 ≡ r .pen .next) × (r .node .depth ≡ digitDepth p) ⌝ }
 {
-    let z = writer::put_difference(table, pen, false, left, right);
-    put_zero_test(table, z, p)
+    let differed = writer::put_difference(table, pen, false, left, right);
+    put_zero_test(table, differed, differed.next - 1, p)
 }
 
 // The digits of an equality condition; their outputs' gates and depths go to gates and depths.

@@ -1,4 +1,4 @@
--- Laws of tests: two that both hold, two of which one or neither does, two that hold together, a range, and comparisons that hold together.
+-- Laws of tests: what is decided, two that both hold, two of which one or neither does, two that hold together, a range, and comparisons that hold together.
 -- Assumes nothing.
 use mathlib.Core.Path.{_≡_, refl, sym, _∙_}
 use mathlib.Core.Logic.{_↔_, _⊎_, inl, inr}
@@ -7,6 +7,11 @@ use Prim.Native.Nat.{ℕ, zero, suc, _≤_, _<_, zero-le}
 use native.Mathlib.Omega.{arith}
 use borrow.Author.Tests.{ltb-true, ltb-false, lt-ltb, le-ltb, eqb-true, eqb-false, eq-eqb, ne-eqb}
 use lib.Dec.{ltb, eqb}
+
+-- what follows either way from what is decided
+abbrev pub cases : {P Q : Type 0} → Dec P → (P → Q) → ((P → ⊥) → Q) → Q
+cases (yes a) f g = f a
+cases (no b) f g = g b
 
 pub both : (a b : Bool) → (a && b) ≡ true → (a ≡ true) × (b ≡ true)
 both true b t = (refl, t)

@@ -1,79 +1,40 @@
--- The terms of an order digit: where the constants of a card stand, what is left of the terms to write, and the depth of their sum.
+-- The terms of an order digit: the constants of a card as they are read, what is left of the terms to write, and the depth of their sum.
 -- Assumes nothing.
-use mathlib.Core.Path.{_≡_, refl, ap, _∙_}
-use mathlib.Core.List.{List, [], _∷_, _++_, map, map-map}
-use Prim.Native.Nat.{ℕ, zero, suc, _+_, _-_, _*_, _/_, _≤_, _<_, max}
+use mathlib.Core.Path.{_≡_, ap, _∙_}
+use mathlib.Core.List.{List, [], _∷_, _++_, map}
+use Prim.Native.Nat.{ℕ, suc, _+_, _-_, _*_, _/_, _≤_, _<_, max}
 use native.Mathlib.Omega.{arith}
 use native.Mathlib.Decide.{decLe}
 use native.Mathlib.Nat.{lt-of-not-le, max-eq-right}
-use lib.ListN.{length, length-map, length-append, getD, List·getD-append}
-use lib.Seq.{getD-at}
+use lib.ListN.{getD}
 use Rattle.field.specs.Half.{half}
 use Rattle.field.specs.Logarithm.{clog}
-use Rattle.field.specs.Polynomials.{everySecond, orderExponents, orderConstant, orderConstants}
+use Rattle.field.specs.Polynomials.{everySecond, orderExponents, orderConstant}
 use Rattle.field.proofs.Logarithm.{clog-mono}
-use Rattle.field.proofs.OrderConstants.{length-second, second-at}
 use Rattle.field.proofs.Polynomials.{constant-below}
 use Rattle.circuit.specs.Constant.{code, signed, bitsOf}
 use Rattle.circuit.specs.Gate.{Gate, Scale, Add}
 use Rattle.circuit.specs.Sums.{laterSum}
 use Rattle.circuit.proofs.Constant.{bits-code}
 use Rattle.comparison.specs.OrderDigit.{powerGate, term, terms}
-use Rattle.comparison.proofs.OrderDigit.{exponents-length}
 use Rattle.comparison.proofs.Powers.{gate-low, gate-high}
 use Rattle.writer.specs.Modulus.{Modulus}
-use Rattle.order.specs.Prepared.{Constants}
+use Rattle.powers.specs.Prepared.{Constants}
+use Rattle.powers.proofs.Constants.{bits-odd, bits-top}
 
--- ---- the constants
+-- ---- the constants, as they are read from a list that begins with their bits
 
--- the exponents after those below i: the odd ones from i on, and p - 1
-abbrev exponentsFrom : ℕ → ℕ → List ℕ
-exponentsFrom p i = everySecond ((p - i) / 2) i ++ ((p - 1) ∷ [])
-
-mapped-at : (f : ℕ → ℕ) (is later : List ℕ) (m : ℕ) → m < length is → getD (map f is ++ later) m 0 ≡ f (getD is m 0)
-mapped-at f [] later m l = absurd (omega arith)
-mapped-at f (i ∷ is) later zero l = refl
-mapped-at f (i ∷ is) later (suc m) l = mapped-at f is later m (omega arith)
-
-second-then : (n i m : ℕ) (later : List ℕ) → m < n → getD (everySecond n i ++ later) m 0 ≡ i + 2 * m
-second-then n i m later l =
-    List·getD-append (everySecond n i) later 0 m (omega (arith, length-second n i)) ∙ second-at n i m l
-
--- there is one for each exponent
-pub constants-long : (p : ℕ) (list : List ℕ) → Constants p list → half p < length list
-unfolding orderConstants
-constants-long p list c =
-    rw (c .begins) (omega (
-      arith,
-      length-append (map (bitsOf p) (orderConstants p)) (c .later),
-      length-map (orderConstants p) (bitsOf p),
-      length-map (orderExponents p) (orderConstant p),
-      exponents-length p,
-    ))
+-- the bits of a constant are read as it
+read-as : (p : ℕ) → Modulus p → (b i : ℕ) → b ≡ bitsOf p (orderConstant p i) → signed b ≡ code p (orderConstant p i)
+read-as p modulus b i e =
+    ap signed e ∙ bits-code p (orderConstant p i) (modulus .1) (omega (arith, modulus)) (constant-below p i (omega (arith, modulus))) .1
 
 module _ (p : ℕ) (modulus : Modulus p) (list : List ℕ) (c : Constants p list) where
-  -- number m of the list is read as the constant of the exponent number m
-  constant-at : (m : ℕ) → m < half p + 1 → signed (getD list m 0) ≡ code p (orderConstant p (getD (orderExponents p) m 0))
-  unfolding orderConstants
-  constant-at m l =
-      let written : ℕ → ℕ = λ i. bitsOf p (orderConstant p i) in
-      let i = getD (orderExponents p) m 0 in
-      let begins = c .begins ∙ ap (λ (bits : List ℕ). bits ++ c .later) (map-map (bitsOf p) (orderConstant p) (orderExponents p)) in
-      let here : getD list m 0 ≡ written i
-      = rw begins (mapped-at written (orderExponents p) (c .later) m (omega (arith, exponents-length p))) in
-      ap signed here ∙ bits-code p (orderConstant p i) (modulus .1) (omega (arith, modulus)) (constant-below p i (omega (arith, modulus))) .1
-
   pub constant-odd : (m : ℕ) → m < half p → signed (getD list m 0) ≡ code p (orderConstant p (2 * m + 1))
-  unfolding orderExponents
-  constant-odd m l =
-      let e : 1 + 2 * m ≡ 2 * m + 1 = omega arith in
-      constant-at m (omega arith) ∙ ap (λ i. code p (orderConstant p i)) (second-then (half p) 1 m _ l ∙ e)
+  constant-odd m l = read-as p modulus (getD list m 0) (2 * m + 1) (bits-odd p list c m l)
 
   pub constant-top : signed (getD list (half p) 0) ≡ code p (orderConstant p (p - 1))
-  unfolding orderExponents
-  constant-top =
-      constant-at (half p) (omega arith)
-      ∙ ap (λ i. code p (orderConstant p i)) (getD-at (everySecond (half p) 1) (p - 1) [] 0 (half p) (length-second (half p) 1))
+  constant-top = read-as p modulus (getD list (half p) 0) (p - 1) (bits-top p list c)
 
 -- ---- what is left to write
 
@@ -83,6 +44,10 @@ place-from p z i = go (decLe i (half p))
     go : Dec (i ≤ half p) → powerGate p z i ≡ z + powerGate p 0 i
     go (yes l) = omega (arith, gate-low p z i l, gate-low p 0 i l)
     go (no n) = omega (arith, gate-high p z i (lt-of-not-le n), gate-high p 0 i (lt-of-not-le n))
+
+-- the exponents after those below i: the odd ones from i on, and p - 1
+abbrev exponentsFrom : ℕ → ℕ → List ℕ
+exponentsFrom p i = everySecond ((p - i) / 2) i ++ ((p - 1) ∷ [])
 
 -- the terms of the exponents from i on: from gate number k on, over the gate of the sum so far
 abbrev pub termsFrom : ℕ → ℕ → ℕ → ℕ → ℕ → List Gate

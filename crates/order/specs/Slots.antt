@@ -6,7 +6,7 @@ use Rattle.circuit.specs.Gate.{Gate}
 use Rattle.comparison.specs.Condition.{Condition}
 use Rattle.comparison.specs.Digits.{orderDigits}
 use Rattle.comparison.specs.Relation.{Relation, Less, Greater}
-use Rattle.comparison.specs.Tests.{baseTests}
+use Rattle.comparison.specs.Tests.{Tests}
 use Rattle.writer.specs.declared.Slots.{Slots}
 use Rattle.writer.specs.Slots.{conditionOn}
 
@@ -18,6 +18,6 @@ orderRelation true = Greater
 abbrev pub orderCondition : Bool → Slots → Condition
 orderCondition backward slots = conditionOn (orderRelation backward) slots
 
--- its digits with document 01's tests, from gate number k on
-abbrev pub baseDigits : ℕ → Condition → ℕ → List Gate
-baseDigits p c k = orderDigits (baseTests p) c k (c .digits) 0
+-- its digits with the tests t, from gate number k on
+abbrev pub digitsBy : Tests → Condition → ℕ → List Gate
+digitsBy t c k = orderDigits t c k (c .digits) 0

@@ -1,4 +1,5 @@
-// Writing order conditions: the tests of a digit over the powers of its difference, and the joining of digits.
+// Writing order conditions: the tests of a digit over the powers of its difference or by a step size, and the joining of digits.
+use steps::Tested;
 use writer::Node;
 use writer::Pen;
 use writer::Slots;
@@ -12,23 +13,17 @@ ghost use Rattle.digits.specs.Number.{mostDigits};
 ghost use Rattle.circuit.specs.Gate.{Flip};
 ghost use Rattle.circuit.specs.Table.{mostGates};
 ghost use Rattle.comparison.specs.Condition.{HasSlots};
-ghost use Rattle.comparison.specs.Digits.{unlessLowest, orderDigit};
+ghost use Rattle.comparison.specs.Digits.{unlessLowest, orderTests, orderDigit};
 ghost use Rattle.comparison.specs.OrderDigit.{terms};
 ghost use Rattle.comparison.specs.Tests.{lessNode, equalNode, digitDepth, baseTests};
 ghost use Rattle.comparison.specs.Writing.{orderSegment};
+ghost use Rattle.step.specs.Digit.{testsBy, Suits};
 ghost use Rattle.writer.specs.Modulus.{Modulus};
 ghost use Rattle.writer.specs.Nodes.{nodeIs};
 ghost use Rattle.writer.specs.Pen.{Wrote, Room, Moved};
 ghost use Rattle.order.specs.TestsListed.{Long, TestsListed};
-ghost use Rattle.order.specs.Prepared.{Prepared, Provided};
-ghost use Rattle.order.specs.Slots.{orderCondition, baseDigits};
-
-// The pen after an order digit, and the nodes of its L and its E. The lowest digit has no E: there it is any node.
-struct Tested {
-    pen: Pen,
-    less: Node,
-    equal: Node,
-}
+ghost use Rattle.powers.specs.Prepared.{Prepared, Provided};
+ghost use Rattle.order.specs.Slots.{orderCondition, digitsBy};
 
 // The terms: a SCALE of each power that has a constant, and their sum. Term m is of z^(2m+1), and the last one of z^(p-1).
 fn put_terms(
@@ -82,34 +77,84 @@ fn put_equal(table: &mut [u8], pen: Pen, j: u16, top: Node) -> Written
     }
 }
 
-// Digit number j: its difference, the powers and the terms, and E.
+// Document 01's tests of digit number j, whose difference is written from gate number k on: the powers and the terms, and E.
+fn put_base_tests(
+    table: &mut [u8],
+    pen: Pen,
+    k: u16,
+    p: u16,
+    j: u16,
+    constants: &[u16],
+    depths: &[u16],
+) -> Tested
+    requires { ⌜ Provided (now table) pen (orderTests (baseTests p) j k) p (now constants) (now depths) ⌝ }
+    requires { ⌜ pen .next ≡ k + 3 ⌝ }
+    ensures wrote { λ r. ⌜ Wrote (now (table .entry)) pen (orderTests (baseTests p) j k) (now (table .exit)) (r .pen) ⌝ }
+    ensures moves { λ r. ⌜ Moved pen (length (orderTests (baseTests p) j k)) (r .pen) ⌝ }
+    ensures less { λ r. ⌜ nodeIs (r .less) ≡ lessNode (baseTests p) k ⌝ }
+    ensures equal { λ r. ⌜ (0 < j → nodeIs (r .equal) ≡ equalNode (baseTests p) k) ⌝ }
+{
+    let z = k + 2;
+    let raised = powers::put_powers(table, pen, z, p);
+    let summed = put_terms(table, raised, z, p, constants, depths);
+    let top = powers::power_at(z, p, p - 1, depths);
+    let flipped = put_equal(table, summed.pen, j, top);
+    let last = flipped.pen;
+    let less = summed.node;
+    let equal = flipped.node;
+    Tested {
+        pen: last,
+        less,
+        equal,
+    }
+}
+
+// Its tests by a step size, or document 01's where that is 0.
+fn put_tests(
+    table: &mut [u8],
+    pen: Pen,
+    k: u16,
+    p: u16,
+    step: u16,
+    j: u16,
+    constants: &[u16],
+    depths: &[u16],
+) -> Tested
+    requires { ⌜ Provided (now table) pen (orderTests (testsBy p step) j k) p (now constants) (now depths) ⌝ }
+    requires { ⌜ (pen .next ≡ k + 3) × Suits p step ⌝ }
+    ensures wrote { λ r. ⌜ Wrote (now (table .entry)) pen (orderTests (testsBy p step) j k) (now (table .exit)) (r .pen) ⌝ }
+    ensures moves { λ r. ⌜ Moved pen (length (orderTests (testsBy p step) j k)) (r .pen) ⌝ }
+    ensures less { λ r. ⌜ nodeIs (r .less) ≡ lessNode (testsBy p step) k ⌝ }
+    ensures equal { λ r. ⌜ (0 < j → nodeIs (r .equal) ≡ equalNode (testsBy p step) k) ⌝ }
+{
+    if step == 0 {
+        return put_base_tests(table, pen, k, p, j, constants, depths);
+    }
+    steps::put_step_tests(table, pen, k, p, step, j, constants, depths)
+}
+
+// Digit number j: its difference and its tests.
 fn put_order_digit(
     table: &mut [u8],
     pen: Pen,
     p: u16,
+    step: u16,
     backward: bool,
     slots: Slots,
     j: u16,
     constants: &[u16],
     depths: &[u16],
 ) -> Tested
-    requires { ⌜ Provided (now table) pen (orderDigit (baseTests p) (orderCondition backward slots) j (pen .next)) p (now constants) (now depths) ⌝ }
-    requires { ⌜ (slots .left + j < mostDigits) × (slots .right + j < mostDigits) ⌝ }
-    ensures wrote { λ r. ⌜ Wrote (now (table .entry)) pen (orderDigit (baseTests p) (orderCondition backward slots) j (pen .next)) (now (table .exit)) (r .pen) ⌝ }
-    ensures moves { λ r. ⌜ Moved pen (length (orderDigit (baseTests p) (orderCondition backward slots) j (pen .next))) (r .pen) ⌝ }
-    ensures less { λ r. ⌜ nodeIs (r .less) ≡ lessNode (baseTests p) (pen .next) ⌝ }
-    ensures equal { λ r. ⌜ (0 < j → nodeIs (r .equal) ≡ equalNode (baseTests p) (pen .next)) ⌝ }
+    requires { ⌜ Provided (now table) pen (orderDigit (testsBy p step) (orderCondition backward slots) j (pen .next)) p (now constants) (now depths) ⌝ }
+    requires { ⌜ Suits p step × (slots .left + j < mostDigits) × (slots .right + j < mostDigits) ⌝ }
+    ensures wrote { λ r. ⌜ Wrote (now (table .entry)) pen (orderDigit (testsBy p step) (orderCondition backward slots) j (pen .next)) (now (table .exit)) (r .pen) ⌝ }
+    ensures moves { λ r. ⌜ Moved pen (length (orderDigit (testsBy p step) (orderCondition backward slots) j (pen .next))) (r .pen) ⌝ }
+    ensures less { λ r. ⌜ nodeIs (r .less) ≡ lessNode (testsBy p step) (pen .next) ⌝ }
+    ensures equal { λ r. ⌜ (0 < j → nodeIs (r .equal) ≡ equalNode (testsBy p step) (pen .next)) ⌝ }
 {
     let k = pen.next;
     let differed = writer::put_difference(table, pen, backward, slots.left + j, slots.right + j);
-    let raised = powers::put_powers(table, differed, k + 2, p);
-    let summed = put_terms(table, raised, k + 2, p, constants, depths);
-    let top = powers::power_at(k + 2, p, p - 1, depths);
-    let flipped = put_equal(table, summed.pen, j, top);
-    let pen = flipped.pen;
-    let less = summed.node;
-    let equal = flipped.node;
-    Tested { pen, less, equal }
+    put_tests(table, differed, k, p, step, j, constants, depths)
 }
 
 // The digits of an order condition, low to high. Gates and depths of their L and E go to the lists, at the digit's number.
@@ -117,6 +162,7 @@ fn put_order_digits(
     table: &mut [u8],
     pen: Pen,
     p: u16,
+    step: u16,
     backward: bool,
     slots: Slots,
     constants: &[u16],
@@ -126,17 +172,17 @@ fn put_order_digits(
     equal: &mut [u16],
     equal_depths: &mut [u16],
 ) -> Pen
-    requires { ⌜ Provided (now table) pen (baseDigits p (orderCondition backward slots) (pen .next)) p (now constants) (now depths) ⌝ }
-    requires { ⌜ HasSlots mostDigits mostDigits (orderCondition backward slots) ⌝ }
+    requires { ⌜ Provided (now table) pen (digitsBy (testsBy p step) (orderCondition backward slots) (pen .next)) p (now constants) (now depths) ⌝ }
+    requires { ⌜ Suits p step × HasSlots mostDigits mostDigits (orderCondition backward slots) ⌝ }
     requires { ⌜ Long (slots .count) (now less) (now «less_depths») (now equal) (now «equal_depths») ⌝ }
-    ensures wrote { λ r. ⌜ Wrote (now (table .entry)) pen (baseDigits p (orderCondition backward slots) (pen .next)) (now (table .exit)) r ⌝ }
-    ensures moves { λ r. ⌜ Moved pen (length (baseDigits p (orderCondition backward slots) (pen .next))) r ⌝ }
-    ensures fills { λ _. ⌜ TestsListed (baseTests p) (pen .next) (slots .count) (now (less .exit)) (now («less_depths» .exit)) (now (equal .exit)) (now («equal_depths» .exit)) ⌝ }
+    ensures wrote { λ r. ⌜ Wrote (now (table .entry)) pen (digitsBy (testsBy p step) (orderCondition backward slots) (pen .next)) (now (table .exit)) r ⌝ }
+    ensures moves { λ r. ⌜ Moved pen (length (digitsBy (testsBy p step) (orderCondition backward slots) (pen .next))) r ⌝ }
+    ensures fills { λ _. ⌜ TestsListed (testsBy p step) (pen .next) (slots .count) (now (less .exit)) (now («less_depths» .exit)) (now (equal .exit)) (now («equal_depths» .exit)) ⌝ }
 {
     let mut last = pen;
     let mut j: u16 = 0;
     while j < slots.count {
-        let digit = put_order_digit(table, last, p, backward, slots, j, constants, depths);
+        let digit = put_order_digit(table, last, p, step, backward, slots, j, constants, depths);
         let at = j as usize;
         less[at] = digit.less.gate;
         less_depths[at] = digit.less.depth;
@@ -153,16 +199,17 @@ pub fn put_order(
     table: &mut [u8],
     pen: Pen,
     p: u16,
+    step: u16,
     backward: bool,
     slots: Slots,
     constants: &[u16],
     depths: &[u16],
 ) -> Written
-    requires { ⌜ Provided (now table) pen (orderSegment (baseTests p) (orderCondition backward slots) (pen .next) .gates) p (now constants) (now depths) ⌝ }
-    requires { ⌜ HasSlots mostDigits mostDigits (orderCondition backward slots) ⌝ }
-    ensures wrote { λ r. ⌜ Wrote (now (table .entry)) pen (orderSegment (baseTests p) (orderCondition backward slots) (pen .next) .gates) (now (table .exit)) (r .pen) ⌝ }
-    ensures moves { λ r. ⌜ Moved pen (length (orderSegment (baseTests p) (orderCondition backward slots) (pen .next) .gates)) (r .pen) ⌝ }
-    ensures output { λ r. ⌜ nodeIs (r .node) ≡ orderSegment (baseTests p) (orderCondition backward slots) (pen .next) .output ⌝ }
+    requires { ⌜ Provided (now table) pen (orderSegment (testsBy p step) (orderCondition backward slots) (pen .next) .gates) p (now constants) (now depths) ⌝ }
+    requires { ⌜ Suits p step × HasSlots mostDigits mostDigits (orderCondition backward slots) ⌝ }
+    ensures wrote { λ r. ⌜ Wrote (now (table .entry)) pen (orderSegment (testsBy p step) (orderCondition backward slots) (pen .next) .gates) (now (table .exit)) (r .pen) ⌝ }
+    ensures moves { λ r. ⌜ Moved pen (length (orderSegment (testsBy p step) (orderCondition backward slots) (pen .next) .gates)) (r .pen) ⌝ }
+    ensures output { λ r. ⌜ nodeIs (r .node) ≡ orderSegment (testsBy p step) (orderCondition backward slots) (pen .next) .output ⌝ }
 {
     let mut less = [0u16; digits::MOST_DIGITS];
     let mut less_depths = [0u16; digits::MOST_DIGITS];
@@ -172,6 +219,7 @@ pub fn put_order(
         table,
         pen,
         p,
+        step,
         backward,
         slots,
         constants,

@@ -1,2 +1,3 @@
 -- Laws of the powers and their depths.
 pub mod Powers
+pub mod Constants

@@ -8,7 +8,7 @@ ghost use lib.ListN.{length, getD};
 ghost use Rattle.field.specs.Byte.{byteValues};
 ghost use Rattle.field.specs.Half.{half as halfOf};
 ghost use Rattle.circuit.specs.Table.{mostGates};
-ghost use Rattle.comparison.specs.OrderDigit.{lowExponents, oddExponents, powerOf, powers, powerCount, powerGate};
+ghost use Rattle.comparison.specs.OrderDigit.{ascending, oddExponents, powerOf, powers, powerCount, powerGate};
 ghost use Rattle.writer.specs.Modulus.{Modulus};
 ghost use Rattle.writer.specs.Pen.{Wrote, Room, Moved};
 ghost use Rattle.powers.specs.Powers.{IsWritten, Deep};
@@ -27,16 +27,15 @@ fn put_power(table: &mut [u8], pen: Pen, z: u16, i: u16) -> Pen
     writer::put_mul(table, pen, z + low, z + high)
 }
 
-// The powers z^i for i = 2 to (p-1)/2.
-fn put_low_powers(table: &mut [u8], pen: Pen, z: u16, p: u16) -> Pen
-    requires { ⌜ Room (now table) pen (halfOf p - 1) × Modulus p × (pen .next ≡ z + 1) ⌝ }
-    ensures wrote { λ r. ⌜ Wrote (now (table .entry)) pen (map (powerOf z) (lowExponents p)) (now (table .exit)) r ⌝ }
-    ensures moves { λ r. ⌜ Moved pen (halfOf p - 1) r ⌝ }
+// The powers z^i for i = 2 to h.
+pub fn put_low_powers(table: &mut [u8], pen: Pen, z: u16, h: u16) -> Pen
+    requires { ⌜ Room (now table) pen (h - 1) × (1 ≤ h) × (h < byteValues) × (pen .next ≡ z + 1) ⌝ }
+    ensures wrote { λ r. ⌜ Wrote (now (table .entry)) pen (map (powerOf z) (ascending (h - 1) 2)) (now (table .exit)) r ⌝ }
+    ensures moves { λ r. ⌜ Moved pen (h - 1) r ⌝ }
 {
-    let half = (p - 1) / 2;
     let mut last = pen;
     let mut i: u16 = 2;
-    while i <= half {
+    while i <= h {
         last = put_power(table, last, z, i);
         i += 1;
     }
@@ -65,7 +64,7 @@ pub fn put_powers(table: &mut [u8], pen: Pen, z: u16, p: u16) -> Pen
     ensures wrote { λ r. ⌜ Wrote (now (table .entry)) pen (powers p z) (now (table .exit)) r ⌝ }
     ensures moves { λ r. ⌜ Moved pen (powerCount p) r ⌝ }
 {
-    let low = put_low_powers(table, pen, z, p);
+    let low = put_low_powers(table, pen, z, (p - 1) / 2);
     let odd = put_odd_powers(table, low, z, p);
     put_power(table, odd, z, p - 1)
 }

@@ -4,17 +4,20 @@
 use mathlib.Core.Path.{_≡_, refl, sym, ap, subst, _∙_}
 use mathlib.Core.Bool.{true}
 use mathlib.Core.List.{List, [], _∷_, _++_, map, map-map}
-use Prim.Native.Nat.{ℕ, suc, _-_, _%_, _^_, _≤_, _<_}
+use Prim.Native.Nat.{ℕ, suc, _+_, _-_, _%_, _^_, _≤_, _<_}
 use native.Mathlib.Omega.{arith}
-use native.Mathlib.Nat.{zero-add, mod-eq-of-lt}
-use lib.ListN.{length}
-use Rattle.answer.specs.Outcome.{accepted}
+use native.Mathlib.Nat.{zero-add, mod-eq-of-lt, le-refl}
+use lib.ListN.{length, length-append}
+use Rattle.answer.specs.Outcome.{accepted, Outcome}
 use Rattle.field.specs.Bit.{bit}
 use Rattle.field.specs.Logarithm.{clog}
+use Rattle.field.proofs.Logarithm.{clog-mono}
 use Rattle.field.specs.Sum.{total}
+use Rattle.field.proofs.Tests.{in-range-false}
 use Rattle.field.proofs.Bit.{bit-and, bit-below}
 use Rattle.digits.specs.Number.{base, allBelow}
 use Rattle.digits.proofs.Number.{below-at, below-weaken}
+use Rattle.circuit.specs.Count.{count, isProduct, isSquare}
 use Rattle.circuit.specs.Depth.{depths, depth}
 use Rattle.circuit.specs.Every.{Every}
 use Rattle.circuit.specs.Factors.{breadth, listProduct}
@@ -22,27 +25,31 @@ use Rattle.circuit.specs.Gate.{Gate}
 use Rattle.circuit.specs.Meaning.{Algebra, entries, entryAt, output, Solves}
 use Rattle.circuit.specs.ProductTree.{productTree}
 use Rattle.circuit.specs.Segment.{Node, Segment}
-use Rattle.circuit.specs.Table.{Head, leftSlots, rightSlots, allFit}
+use Rattle.circuit.specs.Table.{Head, leftSlots, rightSlots, allFit, wellFormed, mostGates}
 use Rattle.circuit.specs.Value.{values}
-use Rattle.circuit.proofs.Bounds.{values-below}
-use Rattle.circuit.proofs.Every.{every-map, map-same}
+use Rattle.circuit.proofs.Bounds.{values-below, depths-below}
+use Rattle.circuit.proofs.Choosing.{order-every}
+use Rattle.circuit.proofs.Every.{every-map, every-map₂, map-same}
 use Rattle.circuit.proofs.Fitting.{fit-append}
 use Rattle.circuit.proofs.Kraft.{at-least}
 use Rattle.circuit.proofs.ProductTree.{product-value}
 use Rattle.circuit.proofs.TreeDepth.{tree-depth}
+use Rattle.circuit.proofs.Promises.{run-accepts}
+use Rattle.circuit.proofs.WellFormed.{slot-range-false, is-well-formed}
 use Rattle.comparison.specs.Condition.{Condition, holds}
 use Rattle.comparison.specs.Lawful.{Lawful}
 use Rattle.comparison.specs.Tests.{Tests}
 use Rattle.query.specs.Card.{Card, AsksYesOrNo, AsksScore}
 use Rattle.query.specs.Form.{Question, questionOf}
+use Rattle.query.specs.Formulas.{endSize, endProducts}
 use Rattle.query.specs.Holds.{allHold, truths, scoreOf}
-use Rattle.query.specs.AnyTests.{LawfulAnswer, LawfulScore, LawfulOutputs, LawfulFits, LawfulDepth}
+use Rattle.query.specs.AnyTests.{LawfulAnswer, LawfulScore, LawfulOutputs, LawfulSizes, LawfulFits, LawfulTable, LawfulRun, LawfulDepth, LawfulDeeper}
 use Rattle.query.specs.Reading.{readCard}
 use Rattle.query.specs.Whole.{Draft, begin, endBy, endOf, filledBy, tableBy, tableOf}
 use Rattle.query.proofs.CardFacts.{Accepted, accepted-card}
-use Rattle.query.proofs.Ending.{end-fits, end-last, last-gate, end-solved, output-depths, end-depth}
+use Rattle.query.proofs.Ending.{end-counts, end-fits, end-last, last-gate, end-solved, output-depths, end-depth}
 use Rattle.query.proofs.Score.{each-below, score-most, score-value}
-use Rattle.query.proofs.Whole.{Good, Sound, begin-sound, outputs-kept, all-outputs, all-sound, all-value}
+use Rattle.query.proofs.Whole.{Good, Sound, begin-sound, outputs-kept, all-outputs, all-sound, all-value, all-differ, all-deeper}
 
 -- the truths' product tells whether all conditions hold
 truths-product : (B : ℕ) (left right : List ℕ) (cs : List Condition) → listProduct (truths B left right cs) ≡ bit (allHold B left right cs)
@@ -102,6 +109,31 @@ module _ (bytes : List ℕ) (card : Card) (e : readCard bytes ≡ accepted card)
         fit-append head 0 (draft .gates) (endOf card draft .gates) (sound .fitted)
         (rw (zero-add (length (draft .gates)))
         (end-fits head (card .conditions) draft sound outputs-length (known .count .0) odd (questionOf (card .form)) (known .weights)))
+
+    pub formed : length gates ≤ mostGates → wellFormed (tableBy t card) ≡ true
+    formed few =
+        is-well-formed (tableBy t card) (record {
+          prime = known .listed;
+          weight = known .weightTest;
+          slots = slot-range-false (head .slots) (known .sides);
+          count = in-range-false (length gates) 1 mostGates (omega (arith, output-last)) few;
+          fitted = gates-fit;
+        })
+
+    -- how many gates, products and squares the end has
+    pub end-has : (length (endOf card draft .gates) ≡ endSize (questionOf (card .form)) (length (card .conditions)))
+        × (count isProduct (endOf card draft .gates) ≡ endProducts (questionOf (card .form)) (length (card .conditions)))
+        × (count isSquare (endOf card draft .gates) ≡ 0)
+    end-has = end-counts head (card .conditions) draft sound outputs-length (known .count .0) (questionOf (card .form))
+
+    whole-length : length gates ≡ length (draft .gates) + endSize (questionOf (card .form)) (length (card .conditions))
+    whole-length = omega (arith, length-append (draft .gates) (endOf card draft .gates), end-has .0)
+
+    -- the outputs are gates of the draft, and none is deeper than its number
+    pub outputs-low : Every (λ (f : Node). (f .depth ≤ f .gate) × (f .gate < length (draft .gates))) (draft .outputs)
+    outputs-low =
+        every-map₂ (λ (f : Node) told bounds. (omega (arith, told, depths-below head (draft .gates) (f .gate) (sound .fitted) (bounds .1)), bounds .1))
+        (draft .outputs) (sound .nodes) (order-every 0 (length (draft .gates)) (draft .outputs) (sound .order))
 
     -- ---- the product tree
 
@@ -187,10 +219,39 @@ lawful-score bytes left right card t e law asks l r = score-is bytes card e t la
 pub lawful-outputs : LawfulOutputs
 lawful-outputs bytes left right card t e law l r = output-values bytes card e t law left right (l .0) (r .0) (l .1) (r .1)
 
+pub lawful-sizes : LawfulSizes
+lawful-sizes bytes card t u e lt lu =
+    let head = tableOf card .head in
+    let two : 2 ≤ card .prime = omega (arith, known bytes card e .prime .low) in
+    omega (
+      arith,
+      whole-length bytes card e t lt,
+      whole-length bytes card e u lu,
+      all-differ head t u lt lu two begin begin (card .conditions) (good bytes card e),
+    )
+
 pub lawful-fits : LawfulFits
 lawful-fits bytes card t e law = gates-fit bytes card e t law
+
+pub lawful-table : LawfulTable
+lawful-table bytes card t e law few = formed bytes card e t law few
+
+pub lawful-run : LawfulRun
+lawful-run bytes later left right work card t e law l r few enough =
+    let p = card .prime in
+    let low : base p ≤ p = omega (arith, known bytes card e .prime .low) in
+    let hl = below-weaken (base p) p left low (l .1) in
+    let hr = below-weaken (base p) p right low (r .1) in
+    ap (λ (o : Outcome ℕ). o .answer)
+    (run-accepts (tableBy t card) later left right work (formed bytes card e t law few) (l .0) (r .0) hl hr enough)
 
 pub lawful-depth : LawfulDepth
 lawful-depth bytes card t tree e law asks same =
     let outputs = map (λ (f : Node). f .gate) (filledBy t card .outputs) in
     rw (depth-is bytes card e t law asks, ← gates-breadth bytes card e t law) (at-least (entryAt depths (tableBy t card .gates)) outputs tree same)
+
+pub lawful-deeper : LawfulDeeper
+lawful-deeper bytes card t u e lt lu asks l m =
+    let two : 2 ≤ card .prime = omega (arith, known bytes card e .prime .low) in
+    let broader = all-deeper (tableOf card .head) t u two l m begin begin (card .conditions) (good bytes card e) (le-refl _) in
+    omega (arith, depth-is bytes card e t lt asks, depth-is bytes card e u lu asks, clog-mono broader)

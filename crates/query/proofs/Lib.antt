@@ -3,6 +3,7 @@ pub mod BuildOrder
 pub mod Building
 pub mod Form
 pub mod Reading
+pub mod Plain
 pub mod CardFacts
 pub mod OverConditions
 pub mod Whole

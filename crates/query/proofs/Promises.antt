@@ -16,9 +16,6 @@ use Rattle.answer.proofs.Outcome.{passed, accepted-same}
 use Rattle.field.specs.Logarithm.{clog}
 use Rattle.field.specs.Sum.{total}
 use Rattle.field.proofs.Logarithm.{clog-factor}
-use Rattle.field.proofs.Tests.{in-range-false}
-use Rattle.digits.specs.Number.{base}
-use Rattle.digits.proofs.Number.{below-weaken}
 use Rattle.circuit.specs.Count.{count, isProduct, isSquare, products, squares, cost}
 use Rattle.circuit.specs.Depth.{depth}
 use Rattle.circuit.specs.Every.{Every}
@@ -38,7 +35,6 @@ use Rattle.circuit.proofs.ProductTree.{least-first}
 use Rattle.circuit.proofs.Promises.{table-reads-back, checks-tables, trims-tables, runs-tables, run-accepts}
 use Rattle.circuit.proofs.Sums.{largest-plus}
 use Rattle.circuit.proofs.TreeDepth.{tree-depth}
-use Rattle.circuit.proofs.WellFormed.{slot-range-false, is-well-formed}
 use Rattle.comparison.specs.Condition.{Condition}
 use Rattle.comparison.specs.Formulas.{conditionSize, conditionProducts, conditionSquares, conditionCost, costSummand}
 use Rattle.comparison.specs.Lawful.{Lawful}
@@ -52,11 +48,10 @@ use Rattle.query.specs.Outcomes.{tableRoom, building}
 use Rattle.query.specs.Promises.{gatesOf, LeftSide, RightSide, ended, RightAnswer, ExactDepth, OutputsAreLast, CardTree, CardOutput, NoShallowerTree, BoundedCost, ExactCost, ExactCounts, ExactSize, SameReport, ReportedNumbers, TrimsToTable, RunsTheTable, RightRun, SameRun, BuiltRun, Built, BuildsWithRoom, BuiltValue, BuiltDepth, BuiltCost}
 use Rattle.query.specs.Reading.{readCard}
 use Rattle.query.specs.Whole.{Draft, begin, endBy, filled, tableOf}
-use Rattle.query.proofs.AnyTests.{known, good, sound, outputs-length, some, output-last, depth-told, gates-fit, tree-ends, lawful-answer, lawful-depth}
+use Rattle.query.proofs.AnyTests.{known, good, sound, some, output-last, depth-told, end-has, tree-ends, lawful-answer, lawful-table, lawful-run, lawful-depth}
 use Rattle.query.proofs.Building.{built}
 use Rattle.query.proofs.BuiltCounted.{built-counts}
 use Rattle.query.proofs.CardFacts.{Accepted}
-use Rattle.query.proofs.Ending.{end-counts}
 use Rattle.query.proofs.OverConditions.{over-mono, over-times, over-cost, over-some, over-powers, size-within}
 use Rattle.query.proofs.Whole.{Good, Sound, all-length, all-last, all-counts, all-depths}
 
@@ -109,15 +104,12 @@ module _ (bytes : List ℕ) (card : Card) (e : readCard bytes ≡ accepted card)
   abbrev draft-some : 1 ≤ length (draft .outputs)
   draft-some = some bytes card e (baseTests p) law
 
-  abbrev draft-length : length (draft .outputs) ≡ length (card .conditions)
-  draft-length = outputs-length bytes card e (baseTests p) law
-
   abbrev last-output : suc (ended card .output .gate) ≡ length gates
   last-output = output-last bytes card e (baseTests p) law
 
   -- ---- depth
 
-  pub output-levels : map (λ (f : Node). f .depth) (draft .outputs) ≡ map (λ (c : Condition). clog (p - 1) + clog (c .digits)) (card .conditions)
+  output-levels : map (λ (f : Node). f .depth) (draft .outputs) ≡ map (λ (c : Condition). clog (p - 1) + clog (c .digits)) (card .conditions)
   output-levels = all-depths head three odd begin (card .conditions) conditions-good
 
   wide : breadth (draft .outputs) ≡ 2 ^ clog (p - 1) * overConditions (λ (c : Condition). 2 ^ clog (c .digits)) (card .conditions)
@@ -142,19 +134,15 @@ module _ (bytes : List ℕ) (card : Card) (e : readCard bytes ≡ accepted card)
 
   -- ---- cost and size
 
-  pub end-has : (length (ended card .gates) ≡ endSize (questionOf (card .form)) (length (card .conditions)))
-      × (count isProduct (ended card .gates) ≡ endProducts (questionOf (card .form)) (length (card .conditions)))
-      × (count isSquare (ended card .gates) ≡ 0)
-  end-has = end-counts head (card .conditions) draft draft-sound draft-length (all .count .0) (questionOf (card .form))
-
   formula-counts : (products gates ≡ productCount card) × (squares gates ≡ squareCount card)
   unfolding count
   formula-counts =
       let conditions = all-counts head three odd begin (card .conditions) conditions-good in
       let counted = built-counts bytes card e in
-      let later = ended card .gates in (
-        omega (arith, counted .0, count-append isProduct (draft .gates) later, end-has .1, conditions .0),
-        omega (arith, counted .1, count-append isSquare (draft .gates) later, end-has .2, conditions .1),
+      let later = ended card .gates in
+      let has = end-has bytes card e (baseTests p) law in (
+        omega (arith, counted .0, count-append isProduct (draft .gates) later, has .1, conditions .0),
+        omega (arith, counted .1, count-append isSquare (draft .gates) later, has .2, conditions .1),
       )
 
   -- so the cost is that of the products of the end and that of each condition
@@ -175,7 +163,7 @@ module _ (bytes : List ℕ) (card : Card) (e : readCard bytes ≡ accepted card)
       omega (
         arith,
         length-append (draft .gates) (ended card .gates),
-        end-has .0,
+        end-has bytes card e (baseTests p) law .0,
         all-length head three odd begin (card .conditions) conditions-good,
       )
 
@@ -198,14 +186,7 @@ module _ (bytes : List ℕ) (card : Card) (e : readCard bytes ≡ accepted card)
       )
 
   formed : wellFormed (tableOf card) ≡ true
-  formed =
-      is-well-formed (tableOf card) (record {
-        prime = all .listed;
-        weight = all .weightTest;
-        slots = slot-range-false (head .slots) (all .sides);
-        count = in-range-false (length gates) 1 mostGates (omega (arith, last-output)) size-fits;
-        fitted = gates-fit bytes card e (baseTests p) law;
-      })
+  formed = lawful-table bytes card (baseTests p) e law size-fits
 
 -- ---- the promises
 
@@ -273,17 +254,12 @@ pub runs-the-table : RunsTheTable
 runs-the-table bytes later left right work card e l r hl hr enough =
     ap (λ (o : Outcome ℕ). o .answer) (run-accepts (tableOf card) later left right work (formed bytes card e) l r hl hr enough)
 
--- digits are below p
 pub runs-digits : (bytes later left right work : List ℕ) (card : Card) → readCard bytes ≡ accepted card → LeftSide card left
     → RightSide card right → length (gatesOf card) ≤ length work
     → running (tableBytes (tableOf card) ++ later) left right work .answer
     ≡ accepted (output (values (card .prime) left right) (gatesOf card))
 runs-digits bytes later left right work card e l r enough =
-    let p = card .prime in
-    let low : base p ≤ p = omega (arith, three bytes card e) in
-    let hl = below-weaken (base p) p left low (l .1) in
-    let hr = below-weaken (base p) p right low (r .1) in
-    runs-the-table bytes later left right work card e (l .0) (r .0) hl hr enough
+    lawful-run bytes later left right work card (baseTests (card .prime)) e (law bytes card e) l r (size-fits bytes card e) enough
 
 pub right-run : RightRun
 right-run bytes later left right work card e asks l r enough =

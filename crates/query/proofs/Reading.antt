@@ -234,13 +234,12 @@ pub record Reads (bytes : List ℕ) (card : Card) : Type 0 where
   pub conditions : readConditions (card .form) (card .prime) 0 (byte bytes 4) (drop headSize bytes) ≡ accepted (card .conditions)
   pub kept : Keeps card
 
-pub reads : (bytes : List ℕ) (card : Card) → readCard bytes ≡ accepted card → Reads bytes card
-reads bytes card e =
+-- a card that is read by the form that its mark tells has that form
+pub formed-reads : (form : Form) (bytes : List ℕ) (card : Card) → wrongMark (headMarkOf form) bytes ≡ false → readFormed form bytes ≡ accepted card
+    → (card .form ≡ form) × Reads bytes card
+formed-reads form bytes card marked e =
     let answer : Answer Card → Answer Card = λ r. r in
-    let least = passed answer (ltb (length bytes) headSize) (refused 1) _ refl e in
-    let found = answered (formOf bytes) (λ form. readFormed form bytes) (least .1) in
-    let form = found .0 in
-    let prime = passed answer (not (listed (byte bytes 2))) (refused 3) _ refl (found .2) in
+    let prime = passed answer (not (listed (byte bytes 2))) (refused 3) _ refl e in
     let weight = passed answer (wrongWeight (byte bytes 3)) (refused 4) _ refl (prime .1) in
     let spare = passed answer (not (eqb (byte bytes 5) 0)) (refused 5) _ refl (weight .1) in
     let count = passed answer (wrongConditionCount (byte bytes 4)) (refused 6) _ refl (spare .1) in
@@ -250,23 +249,32 @@ reads bytes card e =
     let weights = passed answer (wrongTotal (questionOf form) (byte bytes 2) (totalWeight (conditions .0))) (refused 26) _ refl (slots .1) in
     let same : record { form = form; prime = byte bytes 2; weight = byte bytes 3; conditions = conditions .0 } ≡ card = accepted-same (weights .1) in
     let placed = conditions-placed form (byte bytes 2) 0 (byte bytes 4) (drop headSize bytes) (conditions .0) (conditions .1) in
-    rw (← same) (record {
-      mark = mark-is (headMarkOf form) bytes (form-marked bytes form (found .1));
-      prime = refl;
-      weight = refl;
-      count = placed .0;
-      spare = eqb-true _ _ (not-false _ (spare .0));
-      size = eqb-true _ _ (not-false _ (size .0));
-      conditions = conditions .1;
-      kept = record {
-        prime = not-false (listed (byte bytes 2)) (prime .0);
-        weight = weight .0;
-        count = rw (placed .0) (count .0);
-        placed = placed .1;
-        slots = slots .0;
-        weights = weights .0;
-      };
-    })
+    rw (← same) (
+      refl,
+      record {
+        mark = mark-is (headMarkOf form) bytes marked;
+        prime = refl;
+        weight = refl;
+        count = placed .0;
+        spare = eqb-true _ _ (not-false _ (spare .0));
+        size = eqb-true _ _ (not-false _ (size .0));
+        conditions = conditions .1;
+        kept = record {
+          prime = not-false (listed (byte bytes 2)) (prime .0);
+          weight = weight .0;
+          count = rw (placed .0) (count .0);
+          placed = placed .1;
+          slots = slots .0;
+          weights = weights .0;
+        };
+      },
+    )
+
+pub reads : (bytes : List ℕ) (card : Card) → readCard bytes ≡ accepted card → Reads bytes card
+reads bytes card e =
+    let least = passed (λ (r : Answer Card). r) (ltb (length bytes) headSize) (refused 1) _ refl e in
+    let found = answered (formOf bytes) (λ form. readFormed form bytes) (least .1) in
+    formed-reads (found .0) bytes card (form-marked bytes (found .0) (found .1)) (found .2) .1
 
 pub card-bytes : (bytes : List ℕ) (card : Card) → Reads bytes card → bytes ≡ cardBytes card
 card-bytes bytes card r =

@@ -4,18 +4,19 @@
 use mathlib.Core.Path.{_≡_, refl, sym, ap, ap₂, _∙_}
 use mathlib.Core.Bool.{true}
 use mathlib.Core.List.{List, [], _∷_, _++_, map, map-append, append-assoc, append-nil}
-use Prim.Native.Nat.{ℕ, suc, _+_, _-_, _%_, _≤_}
+use Prim.Native.Nat.{ℕ, suc, _+_, _-_, _%_, _^_, _≤_}
 use native.Mathlib.Omega.{arith}
-use native.Mathlib.Nat.{le-refl, zero-add}
+use native.Mathlib.Nat.{le-refl, zero-add, pow-le-pow-right}
 use lib.ListN.{length, length-append}
 use Rattle.field.specs.Logarithm.{clog}
 use Rattle.field.specs.Primes.{Prime}
 use Rattle.field.specs.Sum.{total}
 use Rattle.digits.specs.Number.{base, allBelow}
+use Rattle.field.proofs.Sum.{total-append}
 use Rattle.circuit.specs.Count.{isProduct, isSquare, count}
 use Rattle.circuit.specs.Depth.{depths}
 use Rattle.circuit.specs.Every.{Every}
-use Rattle.circuit.specs.Factors.{InOrder}
+use Rattle.circuit.specs.Factors.{InOrder, breadth}
 use Rattle.circuit.specs.Gate.{Gate}
 use Rattle.circuit.specs.Meaning.{Algebra, entryAt}
 use Rattle.circuit.specs.Segment.{Node}
@@ -28,11 +29,12 @@ use Rattle.circuit.proofs.Fitting.{fit-append}
 use Rattle.circuit.proofs.Meaning.{entries-kept}
 use Rattle.circuit.proofs.ProductTree.{left-over}
 use Rattle.comparison.specs.Condition.{Condition, HasSlots}
-use Rattle.comparison.specs.Formulas.{conditionSize, conditionProducts, conditionSquares}
+use Rattle.comparison.specs.Formulas.{testGates, conditionSize, conditionProducts, conditionSquares}
 use Rattle.comparison.specs.Lawful.{Lawful}
 use Rattle.comparison.specs.Tests.{Tests, baseTests}
 use Rattle.comparison.specs.Writing.{conditionBy, conditionSegment}
-use Rattle.comparison.proofs.Condition.{output-is-last, condition-writes, condition-sized, condition-fits, condition-counts, condition-holds, condition-tells, condition-depth}
+use Rattle.comparison.proofs.Condition.{output-is-last, condition-writes, condition-sized, condition-fits, condition-counts, condition-holds, condition-tells, condition-depth, sizes-differ}
+use Rattle.comparison.proofs.Deeper.{deeper-tests}
 use Rattle.comparison.proofs.Lawful.{base-lawful}
 use Rattle.query.specs.Card.{overConditions}
 use Rattle.query.specs.Formulas.{lastGates}
@@ -209,3 +211,43 @@ module _ (head : Head) (three : 3 ≤ head .prime) (odd : head .prime % 2 ≡ 1)
       let here = condition-depth prime (length (draft .gates)) c at-least-two (good .0 .0) in
       all-depths (add tests prime draft c) cs (good .1)
       ∙ rw (map-append level (draft .outputs) (written .output ∷ []), here) (append-assoc (map level (draft .outputs)) _ _)
+
+-- ---- by two tests
+
+-- the drafts grow alike but for the gates of the digits' tests
+pub all-differ : (head : Head) (t u : Tests) → Lawful (head .prime) t → Lawful (head .prime) u → 2 ≤ head .prime
+    → (d e : Draft) (cs : List Condition) → Every (Good head) cs
+    → length (addAll t (head .prime) d cs .gates) + length (e .gates) + overConditions (testGates u) cs
+    ≡ length (addAll u (head .prime) e cs .gates) + length (d .gates) + overConditions (testGates t) cs
+unfolding addAll total
+all-differ head t u lt lu two d e [] good = omega arith
+all-differ head t u lt lu two d e (c ∷ cs) good =
+    let p = head .prime in
+    let j = length (d .gates) in
+    let k = length (e .gates) in
+    omega (
+      arith,
+      all-differ head t u lt lu two (add t p d c) (add u p e c) cs (good .1),
+      length-append (d .gates) (conditionBy t p c j .gates),
+      length-append (e .gates) (conditionBy u p c k .gates),
+      sizes-differ p j k t u c lt lu two (good .0 .0),
+    )
+
+-- by deeper tests the outputs are at least as broad
+pub all-deeper : (head : Head) (t u : Tests) → 2 ≤ head .prime → t .less .depth ≤ u .less .depth → t .equal .depth ≤ u .equal .depth
+    → (d e : Draft) (cs : List Condition) → Every (Good head) cs → breadth (d .outputs) ≤ breadth (e .outputs)
+    → breadth (addAll t (head .prime) d cs .outputs) ≤ breadth (addAll u (head .prime) e cs .outputs)
+unfolding addAll total
+all-deeper head t u above l m d e [] good h = h
+all-deeper head t u above l m d e (c ∷ cs) good h =
+    let p = head .prime in
+    let j = length (d .gates) in
+    let k = length (e .gates) in
+    let deep = pow-le-pow-right {n = 2} (omega arith) (deeper-tests p j k t u c above (good .0 .0) l m) in
+    all-deeper head t u above l m (add t p d c) (add u p e c) cs (good .1)
+    (omega (arith, h, deep, one-broader (d .outputs) (conditionBy t p c j .output), one-broader (e .outputs) (conditionBy u p c k .output)))
+  where
+    one-broader : (fs : List Node) (f : Node) → breadth (fs ++ (f ∷ [])) ≡ breadth fs + 2 ^ f .depth
+    one-broader fs f =
+        let power : Node → ℕ = λ g. 2 ^ g .depth in
+        ap total (map-append power fs (f ∷ [])) ∙ total-append (map power fs) (2 ^ f .depth ∷ []) ∙ omega arith

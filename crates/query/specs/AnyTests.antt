@@ -2,20 +2,23 @@
 -- Proved in `proofs/AnyTests.antt`.
 use mathlib.Core.Path.{_≡_}
 use mathlib.Core.Bool.{true}
-use mathlib.Core.List.{List, map, List·Permᴰ}
-use Prim.Native.Nat.{ℕ, _≤_}
+use mathlib.Core.List.{List, _++_, map, List·Permᴰ}
+use Prim.Native.Nat.{ℕ, _+_, _≤_}
+use lib.ListN.{length}
 use Rattle.answer.specs.Outcome.{accepted}
 use Rattle.field.specs.Bit.{bit}
 use Rattle.digits.specs.Number.{base}
 use Rattle.circuit.specs.Depth.{depths, depth}
 use Rattle.circuit.specs.Meaning.{entryAt, output}
+use Rattle.circuit.specs.Outcomes.{running}
 use Rattle.circuit.specs.Segment.{Node}
-use Rattle.circuit.specs.Table.{allFit}
+use Rattle.circuit.specs.Table.{tableBytes, allFit, wellFormed, mostGates}
 use Rattle.circuit.specs.Tree.{Tree, leaves, height}
 use Rattle.circuit.specs.Value.{values}
+use Rattle.comparison.specs.Formulas.{testGates}
 use Rattle.comparison.specs.Lawful.{Lawful}
 use Rattle.comparison.specs.Tests.{Tests}
-use Rattle.query.specs.Card.{Card, AsksYesOrNo, AsksScore}
+use Rattle.query.specs.Card.{Card, AsksYesOrNo, AsksScore, overConditions}
 use Rattle.query.specs.Holds.{allHold, truths, scoreOf}
 use Rattle.query.specs.Promises.{LeftSide, RightSide}
 use Rattle.query.specs.Reading.{readCard}
@@ -44,11 +47,32 @@ LawfulOutputs =
     → map (λ (f : Node). entryAt (values (card .prime) left right) (tableBy t card .gates) (f .gate)) (filledBy t card .outputs)
     ≡ truths (base (card .prime)) left right (card .conditions)
 
+-- written by two tests the tables differ by the gates of their digits' tests alone
+abbrev pub LawfulSizes : Type 0
+LawfulSizes =
+    (bytes : List ℕ) (card : Card) (t u : Tests) → readCard bytes ≡ accepted card → Lawful (card .prime) t → Lawful (card .prime) u
+    → length (tableBy t card .gates) + overConditions (testGates u) (card .conditions)
+    ≡ length (tableBy u card .gates) + overConditions (testGates t) (card .conditions)
+
 -- the gates keep the rules of gates
 abbrev pub LawfulFits : Type 0
 LawfulFits =
     (bytes : List ℕ) (card : Card) (t : Tests) → readCard bytes ≡ accepted card → Lawful (card .prime) t
     → allFit (tableBy t card .head) 0 (tableBy t card .gates) ≡ true
+
+-- and they are a table's, where there are no more of them than a table may have
+abbrev pub LawfulTable : Type 0
+LawfulTable =
+    (bytes : List ℕ) (card : Card) (t : Tests) → readCard bytes ≡ accepted card → Lawful (card .prime) t
+    → length (tableBy t card .gates) ≤ mostGates → wellFormed (tableBy t card) ≡ true
+
+-- on whose bytes Run answers, for digits below (p+1)/2, the last gate's value, whatever stands after them
+abbrev pub LawfulRun : Type 0
+LawfulRun =
+    (bytes later left right work : List ℕ) (card : Card) (t : Tests) → readCard bytes ≡ accepted card → Lawful (card .prime) t
+    → LeftSide card left → RightSide card right → length (tableBy t card .gates) ≤ mostGates → length (tableBy t card .gates) ≤ length work
+    → running (tableBytes (tableBy t card) ++ later) left right work .answer
+    ≡ accepted (output (values (card .prime) left right) (tableBy t card .gates))
 
 -- of a card that asks for a yes or no every tree of two-way products over the same condition outputs, each used once,
 -- is at least as deep as the table
@@ -57,3 +81,10 @@ LawfulDepth =
     (bytes : List ℕ) (card : Card) (t : Tests) (tree : Tree ℕ) → readCard bytes ≡ accepted card → Lawful (card .prime) t
     → AsksYesOrNo card → List·Permᴰ (leaves tree) (map (λ (f : Node). f .gate) (filledBy t card .outputs))
     → depth (tableBy t card .gates) ≤ height (entryAt depths (tableBy t card .gates)) tree
+
+-- and by deeper tests the table is at least as deep
+abbrev pub LawfulDeeper : Type 0
+LawfulDeeper =
+    (bytes : List ℕ) (card : Card) (t u : Tests) → readCard bytes ≡ accepted card → Lawful (card .prime) t → Lawful (card .prime) u
+    → AsksYesOrNo card → t .less .depth ≤ u .less .depth → t .equal .depth ≤ u .equal .depth
+    → depth (tableBy t card .gates) ≤ depth (tableBy u card .gates)

@@ -1,15 +1,18 @@
--- What is proved of what Build and Forecast take, leave and turn away (demand 1). Proved in `proofs/Reading.antt` and `proofs/Building.antt`.
+-- What is proved of what Build and Forecast take, leave and turn away (demand 1). Proved in `proofs/Reading.antt`,
+-- `proofs/Plain.antt` and `proofs/Building.antt`.
 use mathlib.Core.Path.{_≡_}
-use mathlib.Core.Logic.{_≢_, _↔_}
-use mathlib.Core.Bool.{true}
+use mathlib.Core.Logic.{_≢_, _↔_, _⊎_}
+use mathlib.Core.Bool.{true, false}
 use mathlib.Core.List.{List}
 use Prim.Native.Nat.{ℕ, _≤_, _<_}
 use lib.ListN.{length, take, drop}
 use Rattle.answer.specs.Outcome.{refused, accepted, Keeps}
+use Rattle.circuit.specs.Bytes.{wrongMark}
 use Rattle.circuit.specs.Table.{tableBytes}
 use Rattle.query.specs.Card.{Card, cardBytes, keepsRules}
+use Rattle.query.specs.Form.{headSize, Plain, headMarkOf}
 use Rattle.query.specs.Outcomes.{tableRoom, building, forecasting}
-use Rattle.query.specs.Reading.{readCard}
+use Rattle.query.specs.Reading.{readCard, readPlain}
 use Rattle.query.specs.Whole.{tableOf}
 
 -- "Accepted and finished: all others.": the bytes of every card that breaks no rule are read as that card
@@ -20,6 +23,17 @@ AcceptsCards = (card : Card) → keepsRules card ≡ true → readCard (cardByte
 abbrev pub OnlyCards : Type 0
 OnlyCards =
     (bytes : List ℕ) (card : Card) → readCard bytes ≡ accepted card → (keepsRules card ≡ true) × (bytes ≡ cardBytes card)
+
+-- plain cards alone (document 02, E7) are the cards that Build takes and that are plain
+abbrev pub PlainCards : Type 0
+PlainCards = (bytes : List ℕ) (card : Card) → (readPlain bytes ≡ accepted card) ↔ ((readCard bytes ≡ accepted card) × (card .form ≡ Plain))
+
+-- under 6 bytes and after a plain card's head mark they are read as Build reads them; "cards that are not plain give 2", whatever else they break
+abbrev pub PlainAlone : Type 0
+PlainAlone =
+    (bytes : List ℕ)
+    → ((length bytes < headSize) ⊎ (wrongMark (headMarkOf Plain) bytes ≡ false) → readPlain bytes ≡ readCard bytes)
+    × (headSize ≤ length bytes → wrongMark (headMarkOf Plain) bytes ≡ true → readPlain bytes ≡ refused 2)
 
 -- "a card is accepted where none of Build's numbers but perhaps 11 turns it away": any other is turned away by a number that is not 11,
 -- whatever is lent

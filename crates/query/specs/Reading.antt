@@ -1,5 +1,5 @@
 -- Reading a card's bytes: the card, or the number of the first rule that they break
--- (document 01, "Operations and what they turn away", Build's numbers 1 to 10; document 02, E1, 25 and 26, and E6, 28).
+-- (document 01, "Operations and what they turn away", Build's numbers 1 to 10; document 02, E1, 25 and 26, and E6, 28; plain cards alone, E7).
 use Prim.Native.Nat.{ℕ, zero, suc, _+_, _*_}
 use mathlib.Core.Bool.{not}
 use mathlib.Core.List.{List, [], _∷_}
@@ -13,7 +13,7 @@ use Rattle.circuit.specs.Table.{wrongWeight}
 use Rattle.comparison.specs.Condition.{Condition}
 use Rattle.comparison.specs.Relation.{Relation, relations}
 use Rattle.query.specs.Card.{Card, wrongConditionCount, slotsOf, totalWeight, wrongTotal}
-use Rattle.query.specs.Form.{headSize, Form, questionOf, recordMarkOf, recordSize, formOf, readTail}
+use Rattle.query.specs.Form.{headSize, Form, Plain, questionOf, headMarkOf, recordMarkOf, recordSize, formOf, readTail}
 
 -- "9 n", then the rules of the form, if it adds any
 abbrev pub readCounted : Form → ℕ → ℕ → Relation → List ℕ → Answer Condition
@@ -59,3 +59,8 @@ readFormed form bytes =
 abbrev pub readCard : List ℕ → Answer Card
 readCard bytes =
     refuse (ltb (length bytes) headSize) (refused 1) (onAnswer (formOf bytes) refused (λ form. readFormed form bytes))
+
+-- a plain card alone (document 02, E7): "cards that are not plain give 2", which is the head mark's number and has its place
+abbrev pub readPlain : List ℕ → Answer Card
+readPlain bytes =
+    refuse (ltb (length bytes) headSize) (refused 1) (refuse (wrongMark (headMarkOf Plain) bytes) (refused 2) (readFormed Plain bytes))

@@ -12,6 +12,7 @@ pub const LIST: usize = 1024;
 pub enum Command {
     Forecast,
     Build,
+    BuildWithin,
     Check,
     Trim,
     Run,
@@ -21,6 +22,7 @@ pub enum Command {
     Table,
     Set,
     Cut,
+    Swap,
     Malformed,
 }
 
@@ -153,6 +155,11 @@ pub fn byte_of(word: &[u8]) -> u8 {
     if number < 256 { number as u8 } else { 255 }
 }
 
+pub fn word_of(word: &[u8]) -> u16 {
+    let number = number_of(word);
+    if number < 65536 { number as u16 } else { 65535 }
+}
+
 // So many of the bytes as a word says, or all where there are fewer.
 pub fn room_of(word: &[u8], bytes: &[u8]) -> usize
     ensures { λ r. ⌜ Counts r (now (bytes .entry)) ⌝ }
@@ -248,6 +255,7 @@ pub fn put_list(word: &[u8], out: &mut [u8]) -> usize
 fn largest(kind: u8) -> u64 {
     match kind {
         b'b' => 255,
+        b'w' => 65535,
         b'c' => TABLE as u64,
         b'p' => TABLE as u64 - 1,
         _ => u64::MAX,
@@ -275,8 +283,8 @@ fn are_of_kinds(line: &[u8], kinds: &[u8]) -> bool {
     true
 }
 
-// Whether a line is a command's name with arguments of the kinds: l a list, b a byte, c a count of
-// bytes, p a place in the table area, n any number.
+// Whether a line is a command's name with arguments of the kinds: l a list, b a byte, w sixteen bits,
+// c a count of bytes, p a place in the table area, n any number.
 fn has_form(line: &[u8], name: &[u8], kinds: &[u8]) -> bool {
     if !is_equal(word(line, 0), name) {
         return false;
@@ -293,6 +301,9 @@ pub fn command_of(line: &[u8]) -> Command {
     }
     if has_form(line, b"build", b"cl") {
         return Command::Build;
+    }
+    if has_form(line, b"build_within", b"wccl") {
+        return Command::BuildWithin;
     }
     if has_form(line, b"check", b"") {
         return Command::Check;
@@ -320,6 +331,9 @@ pub fn command_of(line: &[u8]) -> Command {
     }
     if has_form(line, b"cut", b"c") {
         return Command::Cut;
+    }
+    if has_form(line, b"swap", b"") {
+        return Command::Swap;
     }
     Command::Malformed
 }

@@ -1,11 +1,13 @@
 // The operations for programs in Rust and C, over numbers and bytes. Each but Trim answers 0 on success
 // and on success only, else the number of its refusal, which leaves every lent number and byte as it
 // was. Trim turns nothing away and answers a length.
+use answer::Depth;
 use coding::Decoded;
 use coding::Encoded;
 use forecast::forecast;
 use liveness::Listed;
 use runner::Ran;
+use told::put_offered;
 use told::put_report;
 ghost use mathlib.Core.Path.{_≡_};
 ghost use lib.Dec.{eqb};
@@ -16,7 +18,8 @@ ghost use Rattle.digits.specs.Decoding.{decoding};
 ghost use Rattle.circuit.specs.LastUse.{findingLastUses};
 ghost use Rattle.circuit.specs.Outcomes.{checking, trimming, running};
 ghost use Rattle.query.specs.Outcomes.{building, forecasting};
-ghost use Rattle.told.specs.Told.{isAccepted, numberAfter, gatesAfter, productsAfter, squaresAfter, costAfter, depthAfter};
+ghost use Rattle.offer.specs.Offer.{offering};
+ghost use Rattle.told.specs.Told.{isAccepted, numberAfter, toldOf, whichAfter, lengthAfter, gatesAfter, productsAfter, squaresAfter, costAfter, depthAfter};
 
 // Encode: writes number as n digits at the start of out.
 #[no_mangle]
@@ -162,6 +165,46 @@ pub extern "C" fn staplethread_build(
 {
     put_report(
         builder::build(card, table),
+        gates,
+        products,
+        squares,
+        cost,
+        depth,
+    )
+}
+
+// The base table of a plain card at the start of the first lent bytes, the best step size's within the depth
+// cap at the start of the second, and which of them is handed back, with the length of the part and the report on it.
+#[no_mangle]
+pub extern "C" fn staplethread_build_within(
+    card: &[u8],
+    cap: u16,
+    first: &mut [u8],
+    second: &mut [u8],
+    which: &mut u8,
+    part_length: &mut usize,
+    gates: &mut u16,
+    products: &mut u16,
+    squares: &mut u16,
+    cost: &mut u32,
+    depth: &mut u16,
+) -> u8
+    ensures status { λ r. ⌜ r ≡ refusalIn (offering (now (card .entry)) cap (now (first .entry)) (now (second .entry)) .answer) ⌝ }
+    ensures success { λ r. ⌜ eqb r 0 ≡ isAccepted (offering (now (card .entry)) cap (now (first .entry)) (now (second .entry)) .answer) ⌝ }
+    ensures one { λ _. ⌜ now (first .exit) ≡ offering (now (card .entry)) cap (now (first .entry)) (now (second .entry)) .first ⌝ }
+    ensures two { λ _. ⌜ now (second .exit) ≡ offering (now (card .entry)) cap (now (first .entry)) (now (second .entry)) .second ⌝ }
+    ensures which { λ _. ⌜ now (which .exit) ≡ whichAfter (now (which .entry)) (offering (now (card .entry)) cap (now (first .entry)) (now (second .entry)) .answer) ⌝ }
+    ensures part { λ _. ⌜ now («part_length» .exit) ≡ lengthAfter (now («part_length» .entry)) (offering (now (card .entry)) cap (now (first .entry)) (now (second .entry)) .answer) ⌝ }
+    ensures gates { λ _. ⌜ now (gates .exit) ≡ gatesAfter (now (gates .entry)) (toldOf (offering (now (card .entry)) cap (now (first .entry)) (now (second .entry)) .answer)) ⌝ }
+    ensures products { λ _. ⌜ now (products .exit) ≡ productsAfter (now (products .entry)) (toldOf (offering (now (card .entry)) cap (now (first .entry)) (now (second .entry)) .answer)) ⌝ }
+    ensures squares { λ _. ⌜ now (squares .exit) ≡ squaresAfter (now (squares .entry)) (toldOf (offering (now (card .entry)) cap (now (first .entry)) (now (second .entry)) .answer)) ⌝ }
+    ensures cost { λ _. ⌜ now (cost .exit) ≡ costAfter (now (cost .entry)) (toldOf (offering (now (card .entry)) cap (now (first .entry)) (now (second .entry)) .answer)) ⌝ }
+    ensures depth { λ _. ⌜ now (depth .exit) ≡ depthAfter (now (depth .entry)) (toldOf (offering (now (card .entry)) cap (now (first .entry)) (now (second .entry)) .answer)) ⌝ }
+{
+    put_offered(
+        within::build_within(card, Depth(cap), first, second),
+        which,
+        part_length,
         gates,
         products,
         squares,

@@ -193,19 +193,28 @@ fn two_rules_broken(script: &mut Script) {
     each_pair_broken(script, &card_bytes(7, 70, &[(2, 1), (6, 2)]), &rules);
 }
 
-/// Each pair of broken rules answers the earlier one: those of the head, those
-/// of the records, and at last a card that is too short.
+/// Each pair of broken rules answers the earlier one.
 pub fn each_pair_broken(script: &mut Script, good: &[u8], of_records: &[Break]) {
+    for card in broken_pairs(good, of_records) {
+        script.forecast(&card);
+    }
+}
+
+/// Cards with two broken rules: of those of the head, those of the records, and at
+/// last a card that is too short.
+pub fn broken_pairs(good: &[u8], of_records: &[Break]) -> Vec<Vec<u8>> {
     let too_short: Break = |card| card.truncate(5);
     let rules = [&HEAD_RULES, of_records, &[too_short]].concat();
+    let mut cards = Vec::new();
     for (place, first) in rules.iter().enumerate() {
         for second in &rules[place + 1..] {
             let mut card = good.to_vec();
             first(&mut card);
             second(&mut card);
-            script.forecast(&card);
+            cards.push(card);
         }
     }
+    cards
 }
 
 /// Odd numbers that are no primes, and the ends of the list.

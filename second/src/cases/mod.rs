@@ -11,6 +11,8 @@ mod score_runs;
 mod shared_cards;
 mod shared_runs;
 mod shared_tables;
+mod step_cards;
+mod step_runs;
 mod tables;
 mod used_products;
 mod words;
@@ -51,5 +53,7 @@ pub fn cases() -> String {
     shared_cards::write(&mut script);
     shared_tables::write(&mut script);
     shared_runs::write(&mut script);
+    step_cards::write(&mut script);
+    step_runs::write(&mut script);
     script.finish()
 }

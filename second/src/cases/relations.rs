@@ -145,7 +145,9 @@ pub fn run_drawn(
     }
 }
 
-fn draw_card(random: &mut Random) -> Vec<u8> {
+/// A plain card with any prime and weight, and as many conditions as there is room
+/// for.
+pub fn draw_card(random: &mut Random) -> Vec<u8> {
     let p = random.pick(&PRIMES);
     let weight = 50 + random.byte_below(51);
     let mut room = 16;

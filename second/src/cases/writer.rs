@@ -2,10 +2,11 @@
 
 use crate::card::Card;
 use crate::field::half_range;
-use crate::forecast::forecast;
+use crate::forecast::{card_report, forecast};
 use crate::random::Random;
 use crate::script::hex;
-use crate::table::table_bytes;
+use crate::step_count::best_choice;
+use crate::table::{table_bytes, RECORD_BYTES};
 use std::fmt::Display;
 
 pub struct Script {
@@ -41,6 +42,25 @@ impl Script {
         let gates = forecast(card).expect("an accepted card").gates;
         self.build(table_bytes(gates), card);
         usize::from(gates)
+    }
+
+    pub fn build_within(&mut self, cap: u16, first: usize, second: usize, card: &[u8]) {
+        let card = hex(card);
+        self.line(format_args!("build_within {cap} {first} {second} {card}"));
+    }
+
+    /// Builds an accepted card within the cap, both tables in just the bytes that
+    /// they take; the gates of the base table, and those of the second one, 0 where
+    /// no step size fits the cap.
+    pub fn build_within_exactly(&mut self, cap: u16, card: &[u8]) -> (usize, usize) {
+        let [first, second] = rooms_within(cap, card);
+        self.build_within(cap, first, second, card);
+        (gates_in(first), gates_in(second))
+    }
+
+    /// Exchanges the two table areas.
+    pub fn swap(&mut self) {
+        self.line("swap");
     }
 
     pub fn check(&mut self) {
@@ -87,6 +107,20 @@ impl Script {
     pub fn cut(&mut self, length: usize) {
         self.line(format_args!("cut {length}"));
     }
+}
+
+/// The bytes that the base table and the best step size's within the cap take; 0
+/// for the second where no step size fits.
+pub fn rooms_within(cap: u16, card: &[u8]) -> [usize; 2] {
+    let card = Card::read(card).expect("an accepted card");
+    let second = best_choice(&card, cap).map(|choice| choice.report);
+    let second = second.map_or(0, |report| table_bytes(report.gates));
+    [table_bytes(card_report(&card).gates), second]
+}
+
+/// The gates of a table that takes these bytes.
+fn gates_in(room: usize) -> usize {
+    (room / RECORD_BYTES).saturating_sub(1)
 }
 
 /// Two lists of digits for an accepted card; about `changed` of eight digits

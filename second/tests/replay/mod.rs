@@ -1,11 +1,12 @@
 //! The tables that the lines of a script make.
 
-use second::build;
+use second::{build, build_within};
 
 /// Calls back for each line that asks and makes no table: with its words, and
 /// the table that the lines before it have made.
 pub fn each_question(script: &str, mut question: impl FnMut(&[&str], &[u8])) {
     let mut area = vec![7; 65_600];
+    let mut second_area = vec![5; 65_600];
     let mut length = 0;
     for line in script.lines() {
         let words: Vec<&str> = line.split(' ').collect();
@@ -16,6 +17,13 @@ pub fn each_question(script: &str, mut question: impl FnMut(&[&str], &[u8])) {
                 // Refused or not: what is in the area then is all that counts.
                 let _ = build(&bytes(words[2]), &mut area[..length]);
             }
+            "build_within" => {
+                length = number(2);
+                let (card, cap) = (bytes(words[4]), number(1) as u16);
+                let second = &mut second_area[..number(3)];
+                let _ = build_within(&card, cap, &mut area[..length], second);
+            }
+            "swap" => std::mem::swap(&mut area, &mut second_area),
             "table" => {
                 let table = bytes(words[1]);
                 length = table.len();

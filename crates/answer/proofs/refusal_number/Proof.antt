@@ -90,6 +90,9 @@ enum-told-27 c = search needs
 enum-told-28 : tie.Need-enum-told-28
 enum-told-28 c = search needs
 
+enum-told-29 : tie.Need-enum-told-29
+enum-told-29 c = search needs
+
 returns : tie.Need-returns
 returns c = ap refusalNumber (sym (c .enum-told .given .1))
 
@@ -174,6 +177,9 @@ returns-27 c = ap refusalNumber (sym (c .enum-told27 .given .1))
 returns-28 : tie.Need-returns-28
 returns-28 c = ap refusalNumber (sym (c .enum-told28 .given .1))
 
+returns-29 : tie.Need-returns-29
+returns-29 c = ap refusalNumber (sym (c .enum-told29 .given .1))
+
 pub refusal-number-spec : {M : Type 1} → statement M
 refusal-number-spec =
     tie.close
@@ -206,6 +212,7 @@ refusal-number-spec =
     enum-told-26
     enum-told-27
     enum-told-28
+    enum-told-29
     returns
     returns-2
     returns-3
@@ -233,4 +240,5 @@ refusal-number-spec =
     returns-25
     returns-26
     returns-27
-    returns-28)
+    returns-28
+    returns-29)

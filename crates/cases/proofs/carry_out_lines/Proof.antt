@@ -8,10 +8,11 @@ use Rattle.cases.proofs.carry_out_lines.Statement.{statement}
 use Rattle.cases.proofs.carry_out_lines.Tie as tie
 
 abbrev Inv-loop : tie.InvT-loop
-Inv-loop script table₀ work₀ uses₀ digits₀ out₀ current₀ start₀ table work uses digits out current start = (length table ≡ length table₀) × (length work ≡ length work₀) × (length uses ≡ length uses₀) × (length digits ≡ length digits₀) × (length out ≡ length out₀)
+Inv-loop script table₀ second₀ work₀ uses₀ digits₀ out₀ current₀ start₀ table second work uses digits out current start =
+    (length table ≡ length table₀) × (length second ≡ length second₀) × (length work ≡ length work₀) × (length uses ≡ length uses₀) × (length digits ≡ length digits₀) × (length out ≡ length out₀)
 
 abbrev μ-loop : tie.MeasureT-loop
-μ-loop script table₀ work₀ uses₀ digits₀ out₀ current₀ start₀ table work uses digits out current start = suc (length script) - start
+μ-loop script table₀ second₀ work₀ uses₀ digits₀ out₀ current₀ start₀ table second work uses digits out current start = suc (length script) - start
 
 loop-holds : tie.Need-loop-holds Inv-loop μ-loop
 loop-holds c = search needs
@@ -55,6 +56,9 @@ same-length-4 c = search needs
 same-length-5 : tie.Need-same-length-5 Inv-loop μ-loop
 same-length-5 c = search needs
 
+same-length-6 : tie.Need-same-length-6 Inv-loop μ-loop
+same-length-6 c = search needs
+
 returns : tie.Need-returns Inv-loop μ-loop
 returns c = search needs
 
@@ -78,4 +82,5 @@ carry-out-lines-spec =
     same-length-3
     same-length-4
     same-length-5
+    same-length-6
     returns)

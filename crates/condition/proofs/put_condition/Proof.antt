@@ -6,8 +6,10 @@ use native.Mathlib.Omega.{arith}
 use borrow.Author.Needs.{needs}
 use lib.ListN.{length}
 use Rattle.circuit.specs.Segment.{Segment}
-use Rattle.comparison.specs.Tests.{baseTests}
-use Rattle.comparison.specs.Writing.{orderSegment, equalitySegment, conditionSegment}
+use Rattle.comparison.specs.Lawful.{Lawful}
+use Rattle.comparison.specs.Writing.{orderSegment, equalitySegment, conditionBy}
+use Rattle.step.specs.Digit.{testsBy}
+use Rattle.step.proofs.Promises.{by-lawful}
 use Rattle.order.specs.Slots.{orderCondition}
 use Rattle.equality.specs.Slots.{equalityCondition}
 use Rattle.relations.specs.Relations.{relationIs}
@@ -25,11 +27,16 @@ abbrev flipped : tie.After-is-order → Bool
 flipped c = c .before .is-flipped .result
 
 abbrev whole : tie.After-is-order → Segment
-whole c = let a = start c .args in conditionSegment (a .p) (conditionIs (a .relation) (a .slots)) (a .pen .next)
+whole c = let a = start c .args in conditionBy (testsBy (a .p) (a .step)) (a .p) (conditionIs (a .relation) (a .slots)) (a .pen .next)
+
+-- the tests of its order digits are lawful
+lawful : (s : tie.Start) → (let a = s .args in Lawful (a .p) (testsBy (a .p) (a .step)))
+lawful s =
+    let asked = s .pre .1 .0 in by-lawful (s .args .p) (s .args .step) (asked .0 .0) (asked .0 .1) (asked .1 .low)
 
 -- what is written before the ending
 abbrev order : tie.After-is-backward → Segment
-order c = let a = start (c .before .before) .args in orderSegment (baseTests (a .p)) (orderCondition (c .is-backward .result) (a .slots)) (a .pen .next)
+order c = let a = start (c .before .before) .args in orderSegment (testsBy (a .p) (a .step)) (orderCondition (c .is-backward .result) (a .slots)) (a .pen .next)
 
 abbrev equality : tie.Else1 → Segment
 equality c = let a = start (c .before) .args in equalitySegment (a .p) (equalityCondition (a .slots)) (a .pen .next)
@@ -41,7 +48,7 @@ ends-order : (c : tie.After-is-backward) → (
 ends-order c =
     let o = c .before .before in
     let a = start o .args in
-    order-is (a .p) (relationIs (a .relation)) (a .slots) (a .pen .next) (flipped o) (c .is-backward .result)
+    order-is (testsBy (a .p) (a .step)) (a .p) (relationIs (a .relation)) (a .slots) (a .pen .next) (flipped o) (c .is-backward .result)
     (sym (o .is-order .ensures) ∙ c .before .if1 .taken) (o .before .is-flipped .ensures) (c .is-backward .ensures)
 
 ends-equality : (c : tie.Else1) → (
@@ -50,7 +57,7 @@ ends-equality : (c : tie.Else1) → (
 ends-equality c =
     let o = c .before in
     let a = start o .args in
-    equality-is (a .p) (relationIs (a .relation)) (a .slots) (a .pen .next) (flipped o)
+    equality-is (testsBy (a .p) (a .step)) (a .p) (relationIs (a .relation)) (a .slots) (a .pen .next) (flipped o)
     (sym (o .is-order .ensures) ∙ c .if1 .left) (o .before .is-flipped .ensures)
 
 is-flipped-requires : tie.Need-is-flipped-requires
@@ -73,11 +80,11 @@ put-order-requires c κs =
     omega (arith, size (a .pen) (flipped o) (order b) (whole o) (ends-order b), s .pre .0)
     in (
       record {
-        room = either-room (a .p) (orderCondition (b .is-backward .result) (a .slots)) _ refl (a .pen) (asked .0 .0) (asked .0 .1) (asked .1 .0) (a .table .now) room;
+        room = either-room (a .p) (testsBy (a .p) (a .step)) (lawful s) (orderCondition (b .is-backward .result) (a .slots)) _ refl (a .pen) (asked .2 .0) (a .table .now) room;
         modulus = asked .0;
         prepared = s .pre .1 .1 (sym (o .is-order .ensures) ∙ b .before .if1 .taken);
       },
-      asked .1,
+      (asked .1, asked .2),
     )
 
 put-ending-requires : tie.Need-put-ending-requires
@@ -89,7 +96,7 @@ put-ending-requires c κs =
     let a = s .args in
     let asked = s .pre .1 .0 in
     let moved : Moved (a .pen) (length (order b .gates)) (w .put-order .result .pen) =
-    either-moved (a .p) _ (orderCondition (b .is-backward .result) (a .slots)) refl (a .pen) (asked .0 .0) (asked .0 .1) (asked .1 .0) (w .put-order .ensures .1 .0)
+    either-moved (a .p) (testsBy (a .p) (a .step)) (lawful s) _ (orderCondition (b .is-backward .result) (a .slots)) refl (a .pen) (asked .2 .0) (w .put-order .ensures .1 .0)
     in
     omega (arith, size (a .pen) (flipped o) (order b) (whole o) (ends-order b), s .pre .0, moved, w)
 
@@ -112,7 +119,8 @@ put-equality-requires c κs =
     let i = c .before in
     let o = i .before in
     let s = start o in
-    (omega (arith, size (s .args .pen) (flipped o) (equality i) (whole o) (ends-equality i), s .pre .0), s .pre .1 .0)
+    let asked = s .pre .1 .0 in
+    (omega (arith, size (s .args .pen) (flipped o) (equality i) (whole o) (ends-equality i), s .pre .0), (asked .0, asked .2))
 
 put-ending-requires-2 : tie.Need-put-ending-requires-2
 put-ending-requires-2 c κs =

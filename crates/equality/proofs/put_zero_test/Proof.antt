@@ -12,19 +12,16 @@ use Rattle.equality.proofs.put_zero_test.Tie as tie
 sub-put-squares : tie.Need-sub-put-squares
 sub-put-squares c = search needs
 
-sub-put-squares-2 : tie.Need-sub-put-squares-2
-sub-put-squares-2 c = search needs
-
 put-squares-requires : tie.Need-put-squares-requires
 put-squares-requires c κs =
-    let a = c .before .before .before .args in
-    omega (arith, chain-size (a .p - 1) (a .pen .next) (a .pen .next - 1) (omega arith))
+    let a = c .before .before .args in
+    omega (arith, chain-size (a .p - 1) (a .pen .next) (a .z) (omega arith))
 
 put-collected-requires : tie.Need-put-collected-requires
 put-collected-requires c κs =
     let q = c .before .before .before .put-squares in
-    let a = c .before .before .before .before .before .before .before .args in
-    omega (arith, chain-size (a .p - 1) (a .pen .next) (a .pen .next - 1) (omega arith), q .ensures .0 .number)
+    let a = c .before .before .before .before .before .before .args in
+    omega (arith, chain-size (a .p - 1) (a .pen .next) (a .z) (omega arith), q .ensures .0 .number)
 
 same-length : tie.Need-same-length
 same-length c = search needs
@@ -33,8 +30,8 @@ returns : tie.Need-returns
 returns c =
     let w = c .before .before .put-collected in
     let q = c .before .before .before .before .before .before .put-squares in
-    let s = c .before .before .before .before .before .before .before .before .before .before in
-    let size = chain-size (s .args .p - 1) (s .args .pen .next) (s .args .pen .next - 1) (omega (arith, s .pre)) in (
+    let s = c .before .before .before .before .before .before .before .before .before in
+    let size = chain-size (s .args .p - 1) (s .args .pen .next) (s .args .z) (omega (arith, s .pre)) in (
       q .ensures .0 .gives _ _ (w .ensures .0),
       (
         omega (arith, size, q .ensures .0 .number),
@@ -47,7 +44,6 @@ put-zero-test-spec =
     tie.close
     (tie.spec
     sub-put-squares
-    sub-put-squares-2
     put-squares-requires
     put-collected-requires
     same-length

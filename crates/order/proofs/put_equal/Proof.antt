@@ -6,7 +6,7 @@ use native.Mathlib.Omega.{arith}
 use borrow.Author.Needs.{needs}
 use Rattle.circuit.specs.Gate.{Flip}
 use Rattle.writer.proofs.Writing.{none}
-use Rattle.order.proofs.Digit.{lowest-none, upper-all}
+use Rattle.comparison.proofs.Digits.{lowest-none, upper-all}
 use Rattle.order.proofs.put_equal.Statement.{statement}
 use Rattle.order.proofs.put_equal.Tie as tie
 

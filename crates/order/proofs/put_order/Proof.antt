@@ -6,7 +6,8 @@ use native.Mathlib.Omega.{arith}
 use borrow.Author.Needs.{needs}
 use lib.ListN.{length, length-append}
 use Rattle.field.proofs.Logarithm.{clog-is-ceiling}
-use Rattle.comparison.specs.Tests.{baseTests}
+use Rattle.step.specs.Digit.{testsBy}
+use Rattle.step.proofs.Tests.{by-depths}
 use Rattle.writer.proofs.Writing.{same-gates, then}
 use Rattle.order.specs.Slots.{orderCondition}
 use Rattle.order.proofs.Whole.{digits-within, segment-is, listed-joinable}
@@ -39,9 +40,9 @@ put-order-digits-requires : tie.Need-put-order-digits-requires
 put-order-digits-requires c κs =
     let s = start c in
     let a = s .args in
-    let part = digits-within (baseTests (a .p)) (orderCondition (a .backward) (a .slots)) (a .pen .next) in
-    let wide = s .pre .1 in
-    (record { room = omega (arith, part, s .pre .0 .room); modulus = s .pre .0 .modulus; prepared = s .pre .0 .prepared }, (wide, omega (arith, wide)))
+    let part = digits-within (testsBy (a .p) (a .step)) (orderCondition (a .backward) (a .slots)) (a .pen .next) in
+    let wide = s .pre .1 .1 in
+    (record { room = omega (arith, part, s .pre .0 .room); modulus = s .pre .0 .modulus; prepared = s .pre .0 .prepared }, (s .pre .1, omega (arith, wide)))
 
 slice-aggregate-join-digits : tie.Need-slice-aggregate-join-digits
 slice-aggregate-join-digits c = search needs
@@ -61,11 +62,13 @@ join-digits-requires c κs =
     let s = start (written .before) in
     let a = s .args in
     let d = orderCondition (a .backward) (a .slots) in
-    let wide = s .pre .1 in
+    let wide = s .pre .1 .1 in
     let e = written .put-order-digits .ensures in
-    let deep = clog-is-ceiling (a .p - 1) 8 .0 (omega (arith, s .pre .0 .modulus)) in
-    let whole = segment-is (baseTests (a .p)) d (a .pen .next) (wide .0) (e .1 .1) (written .put-order-digits .result .next) (e .1 .0 .0) in (
-      listed-joinable (baseTests (a .p)) d (a .pen .next) (wide .0) (e .1 .1) (omega (arith, wide)) (omega (arith, deep)) (omega (arith, deep))
+    let modulus = s .pre .0 .modulus in
+    let deep = by-depths (a .p) (a .step) (modulus .0) (s .pre .1 .0 .low) in
+    let top = clog-is-ceiling (a .p - 1) 8 .0 (omega (arith, modulus)) in
+    let whole = segment-is (testsBy (a .p) (a .step)) d (a .pen .next) (wide .0) (e .1 .1) (written .put-order-digits .result .next) (e .1 .0 .0) in (
+      listed-joinable (testsBy (a .p) (a .step)) d (a .pen .next) (wide .0) (e .1 .1) (omega (arith, wide)) (omega (arith, deep, top)) (omega (arith, deep, top))
           (omega (arith, wide, written)),
       omega (arith, simp length-append at (ap length (whole .0)), s .pre .0 .room, e .1 .0, written),
     )
@@ -80,10 +83,10 @@ returns c =
     let s = start (written .before) in
     let a = s .args in
     let d = orderCondition (a .backward) (a .slots) in
-    let wide = s .pre .1 in
+    let wide = s .pre .1 .1 in
     let e = written .put-order-digits .ensures in
     let r = joined .join-digits .ensures in
-    let whole = segment-is (baseTests (a .p)) d (a .pen .next) (wide .0) (e .1 .1) (written .put-order-digits .result .next) (e .1 .0 .0) in
+    let whole = segment-is (testsBy (a .p) (a .step)) d (a .pen .next) (wide .0) (e .1 .1) (written .put-order-digits .result .next) (e .1 .0 .0) in
     let wrote = same-gates (sym (whole .0)) (then (e .0) (r .0)) in
     (wrote, ((wrote .number, r .1 .0 .1, r .1 .0 .2), r .1 .1 ∙ sym (whole .1)))
 

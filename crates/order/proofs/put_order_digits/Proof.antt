@@ -2,15 +2,17 @@
 -- and the lists hold the tests of the others. The measure is how many are left.
 -- Assumes nothing.
 use mathlib.Core.Path.{_≡_, refl, sym, ap, _∙_}
-use Prim.Native.Nat.{_-_, _≤_, _<_}
+use Prim.Native.Nat.{_+_, _-_, _≤_, _<_}
 use native.Mathlib.Omega.{arith}
 use borrow.Author.Needs.{needs}
 use lib.ListN.{length, length-set}
+use Rattle.digits.specs.Number.{mostDigits}
 use Rattle.comparison.specs.Digits.{digitsFrom, orderDigit, orderStart, orderDigits}
-use Rattle.comparison.specs.Tests.{lessNode, equalNode, baseTests}
+use Rattle.comparison.specs.Tests.{lessNode, equalNode}
 use Rattle.comparison.proofs.Digits.{digits-cons}
 use Rattle.comparison.proofs.DigitTests.{order-first}
-use Rattle.comparison.proofs.Lawful.{base-lawful}
+use Rattle.step.specs.Digit.{testsBy}
+use Rattle.step.proofs.Promises.{by-lawful}
 use Rattle.writer.specs.Remains.{Remains}
 use Rattle.writer.proofs.Remains.{remains-all, remains-as, remains-then}
 use Rattle.writer.proofs.Writing.{none, same-gates}
@@ -21,8 +23,8 @@ use Rattle.order.proofs.put_order_digits.Statement.{statement}
 use Rattle.order.proofs.put_order_digits.Tie as tie
 
 abbrev Inv-loop : tie.InvT-loop
-Inv-loop table₀ p backward slots constants depths less₀ less-depths₀ equal₀ equal-depths₀ last₀ j₀ table less less-depths equal equal-depths last j =
-    let t = baseTests p in
+Inv-loop table₀ p step backward slots constants depths less₀ less-depths₀ equal₀ equal-depths₀ last₀ j₀ table less less-depths equal equal-depths last j =
+    let t = testsBy p step in
     let c = orderCondition backward slots in
     let k = last₀ .next in
     let n = slots .count in
@@ -33,7 +35,7 @@ Inv-loop table₀ p backward slots constants depths less₀ less-depths₀ equal
     × (length equal-depths ≡ length equal-depths₀))
 
 abbrev μ-loop : tie.MeasureT-loop
-μ-loop table₀ p backward slots constants depths less₀ less-depths₀ equal₀ equal-depths₀ last₀ j₀ table less less-depths equal equal-depths last j =
+μ-loop table₀ p step backward slots constants depths less₀ less-depths₀ equal₀ equal-depths₀ last₀ j₀ table less less-depths equal equal-depths last j =
     slots .count - j
 
 -- ---- the stages: the start, a turn of the loop, the digit that it writes
@@ -61,11 +63,11 @@ loop-holds c =
     let k = a .pen .next in
     let all : a .slots .count - 0 ≡ a .slots .count = omega arith in (
       omega arith,
-      sym (order-first (baseTests (a .p)) k),
+      sym (order-first (testsBy (a .p) (a .step)) k),
       omega arith,
       omega arith,
       rw all remains-all,
-      listed-none (baseTests (a .p)) k,
+      listed-none (testsBy (a .p) (a .step)) k,
       (refl, refl, refl, refl, refl),
     )
 
@@ -75,9 +77,11 @@ put-order-digit-requires c κs =
     let s = start turn in
     let a = s .args in
     let inv = turn .loop .inv in
-    let room = digit-room (baseTests (a .p)) (orderCondition (a .backward) (a .slots)) (a .pen .next) (a .slots .count) (turn .loop .j) (turn .loop .last .next)
+    let room = digit-room (testsBy (a .p) (a .step)) (orderCondition (a .backward) (a .slots)) (a .pen .next) (a .slots .count) (turn .loop .j) (turn .loop .last .next)
     (c .before .if1 .taken) (inv .1) (inv .4 .number) in
-    (record { room = omega (arith, room, inv, s .pre .0 .room); modulus = s .pre .0 .modulus; prepared = s .pre .0 .prepared }, omega (arith, s .pre .1 .0, c .before .if1 .taken))
+    let slots : (a .slots .left + turn .loop .j < mostDigits) × (a .slots .right + turn .loop .j < mostDigits)
+    = omega (arith, s .pre .1 .0 .1, c .before .if1 .taken) in
+    (record { room = omega (arith, room, inv, s .pre .0 .room); modulus = s .pre .0 .modulus; prepared = s .pre .0 .prepared }, (s .pre .1 .0 .0, slots .0, slots .1))
 
 cast-at : tie.Need-cast-at Inv-loop μ-loop
 cast-at c = search needs
@@ -122,7 +126,7 @@ loop-again c =
     let inv = l .inv in
     let some = digit .before .before .if1 .taken in
     let odd = s .pre .0 .modulus in
-    let t = baseTests (a .p) in
+    let t = testsBy (a .p) (a .step) in
     let d = orderCondition (a .backward) (a .slots) in
     let k = a .pen .next in
     let n = a .slots .count in
@@ -130,7 +134,7 @@ loop-again c =
     let left = remains-as (digits-cons (orderDigit t d) (orderStart t k) n (l .j) some) (inv .4) in
     let here = inv .1 in (
       omega (arith, some),
-      digit-next t d k n (l .j) _ some here (base-lawful (a .p) (odd .0) (odd .1)) (e .1 .0 .0),
+      digit-next t d k n (l .j) _ some here (by-lawful (a .p) (a .step) (odd .0) (odd .1) (s .pre .1 .0 .0 .low)) (e .1 .0 .0),
       e .1 .0 .1,
       e .1 .0 .2,
       remains-then left (same-gates (ap (orderDigit t d (l .j)) here) (e .0)),

@@ -17,8 +17,9 @@ use Rattle.writer.specs.declared.Written.{Written}
 use Rattle.writer.specs.Remains.{Remains}
 use Rattle.writer.proofs.Remains.{remains-all, remains-as, remains-then}
 use Rattle.writer.proofs.Writing.{same-gates, then}
+use Rattle.powers.proofs.Constants.{constants-long}
 use Rattle.powers.proofs.Powers.{place-within}
-use Rattle.order.proofs.Terms.{termsFrom, constants-long, constant-odd, constant-top, terms-first, later-cons, later-top, deeper-power}
+use Rattle.order.proofs.Terms.{termsFrom, constant-odd, constant-top, terms-first, later-cons, later-top, deeper-power}
 use Rattle.order.proofs.put_terms.Statement.{statement}
 use Rattle.order.proofs.put_terms.Tie as tie
 

@@ -7,8 +7,7 @@ use Prim.Native.Nat.{_+_, _-_, _≤_}
 use native.Mathlib.Omega.{arith}
 use borrow.Author.Needs.{needs}
 use lib.ListN.{length}
-use Rattle.field.specs.Half.{half}
-use Rattle.comparison.specs.OrderDigit.{ascending, lowExponents, powerOf}
+use Rattle.comparison.specs.OrderDigit.{ascending, powerOf}
 use Rattle.writer.specs.Remains.{Remains}
 use Rattle.writer.proofs.Remains.{remains-all, remains-as, remains-then}
 use Rattle.writer.proofs.Writing.{none}
@@ -17,21 +16,18 @@ use Rattle.powers.proofs.put_low_powers.Statement.{statement}
 use Rattle.powers.proofs.put_low_powers.Tie as tie
 
 abbrev Inv-loop : tie.InvT-loop
-Inv-loop table₀ z p h last₀ i₀ table last i =
-    (2 ≤ i) × (i ≤ half p + 1) × (last .next + 1 ≡ z + i) × (last .products ≤ last .next) × (last .squares ≤ last .next)
+Inv-loop table₀ z h last₀ i₀ table last i =
+    (2 ≤ i) × (i ≤ h + 1) × (last .next + 1 ≡ z + i) × (last .products ≤ last .next) × (last .squares ≤ last .next)
     × (length table ≡ length table₀)
-    × Remains table₀ last₀ (map (powerOf z) (lowExponents p)) table last (map (powerOf z) (ascending (half p + 1 - i) i))
+    × Remains table₀ last₀ (map (powerOf z) (ascending (h - 1) 2)) table last (map (powerOf z) (ascending (h + 1 - i) i))
 
 abbrev μ-loop : tie.MeasureT-loop
-μ-loop table₀ z p h last₀ i₀ table last i = half p + 1 - i
-
-sub-half : tie.Need-sub-half Inv-loop μ-loop
-sub-half c = search needs
+μ-loop table₀ z h last₀ i₀ table last i = h + 1 - i
 
 loop-holds : tie.Need-loop-holds Inv-loop μ-loop
 loop-holds c =
     let s = c .before in
-    let e : half (s .args .p) + 1 - 2 ≡ half (s .args .p) - 1 = omega arith in
+    let e : s .args .h + 1 - 2 ≡ s .args .h - 1 = omega arith in
     (omega arith, omega arith, omega arith, omega arith, omega arith, refl, rw e remains-all)
 
 put-power-requires : tie.Need-put-power-requires Inv-loop μ-loop
@@ -54,7 +50,7 @@ loop-again c =
       omega arith,
       omega arith,
       omega arith,
-      remains-then {gs = powerOf (a .z) (l .loop .i) ∷ []} (remains-as (low-cons (a .z) (half (a .p)) (l .loop .i) (omega arith)) (l .loop .inv .6))
+      remains-then {gs = powerOf (a .z) (l .loop .i) ∷ []} (remains-as (low-cons (a .z) (a .h) (l .loop .i) (omega arith)) (l .loop .inv .6))
           (w .put-power .ensures .0),
     )
 
@@ -65,7 +61,7 @@ returns : tie.Need-returns Inv-loop μ-loop
 unfolding ascending
 returns c =
     let l = c .before in
-    let e : half (l .before .before .args .p) + 1 - l .loop .i ≡ 0 = omega arith in
+    let e : l .before .before .args .h + 1 - l .loop .i ≡ 0 = omega arith in
     ((rw e at (l .loop .inv .6)) .gives _ _ none, omega arith)
 
 pub put-low-powers-spec : {M : Type 1} → statement M
@@ -74,7 +70,6 @@ put-low-powers-spec =
     (tie.spec
     Inv-loop
     μ-loop
-    sub-half
     loop-holds
     put-power-requires
     add-i

@@ -7,7 +7,7 @@ use native.Mathlib.Numerals.{add-one}
 use lib.ListN.{getD}
 use Rattle.field.specs.Logarithm.{clog}
 use Rattle.field.proofs.Logarithm.{clog-is-ceiling}
-use Rattle.comparison.proofs.Powers.{power-deep}
+use Rattle.comparison.proofs.LowPowers.{power-deep}
 use Rattle.powers.proofs.Powers.{place-within, deep-step, deep-halves}
 use borrow.Author.Needs.{needs}
 use Rattle.powers.proofs.put_power_depth.Statement.{statement}

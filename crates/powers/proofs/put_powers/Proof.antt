@@ -6,6 +6,9 @@ use borrow.Author.Needs.{needs}
 use Rattle.powers.proofs.put_powers.Statement.{statement}
 use Rattle.powers.proofs.put_powers.Tie as tie
 
+sub-put-low-powers : tie.Need-sub-put-low-powers
+sub-put-low-powers c = search needs
+
 put-low-powers-requires : tie.Need-put-low-powers-requires
 put-low-powers-requires c κs = search needs
 
@@ -32,6 +35,7 @@ pub put-powers-spec : {M : Type 1} → statement M
 put-powers-spec =
     tie.close
     (tie.spec
+    sub-put-low-powers
     put-low-powers-requires
     put-odd-powers-requires
     sub-put-power

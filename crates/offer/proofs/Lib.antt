@@ -1,0 +1,6 @@
+-- Laws that other crates cite.
+pub mod Best
+pub mod StepTables
+pub mod NoOrder
+pub mod Sizes
+pub mod Promises

@@ -1,0 +1,3 @@
+-- Laws that only the functions inside cite.
+pub mod Counting
+pub mod Rating
