@@ -1,4 +1,4 @@
--- The number of each refusal (document 01, "Operations and what they turn away"; document 02, E1, E4 and E6), with the rule that gives it.
+-- The number of each refusal (document 01, "Operations and what they turn away"; document 02, E1, E4, E6 and E7), with the rule that gives it.
 use Prim.Native.Nat.{ℕ}
 use Rattle.answer.specs.declared.Refusal.{Refusal}
 use Rattle.answer.specs.declared.Refusal.the-variants.{CardTooShort, WrongMark, PrimeNotListed, WeightOutOfRange, SpareNotZero, ConditionCount, CardLength, UnknownRelation, DigitCount, TooManyDigits, TableBufferTooSmall, TableHeadTooShort, SlotCount, GateCount, TableTooShort, UnknownKind, WrongOperand, ListLength, ValueTooLarge, WorkBufferTooSmall, OutBufferTooSmall, NumberTooLarge, DigitTooLarge, NumberTooWide, ScoreWeight, TotalWeight, LastUseListTooShort, LeftSlotsOutOfRange, DepthAboveCap}

@@ -63,7 +63,7 @@ fn put_conditions(
 }
 
 // Whether one of the conditions has an order relation.
-pub fn has_order(card: &[u8], head: CardHead) -> bool
+fn has_order(card: &[u8], head: CardHead) -> bool
     requires { ⌜ ReadAs (now card) head ⌝ }
     ensures { λ r. ⌜ r ≡ anyOrder (conditionsOf (now (card .entry))) ⌝ }
 {

@@ -33,7 +33,7 @@ stepDepth card step = report (stepTable card step) .depth
 abbrev pub within : ℕ → Table → Bool
 within cap table = leb (report table .depth) cap
 
--- a step size counts whose table is within the cap, and a table at all: "G from 1 to 8191" (document 01, "Table")
+-- a step size counts whose table is within the cap, and a table at all: "gate count G as u16 (1 to 8191)" (document 01, "Gate table")
 abbrev pub counts : ℕ → Card → ℕ → Bool
 counts cap card step = within cap (stepTable card step) && leb (length (stepTable card step .gates)) mostGates
 
