@@ -2,6 +2,7 @@
 // and on success only, else the number of its refusal, which leaves every lent number and byte as it
 // was. Trim turns nothing away and answers a length.
 use answer::Depth;
+use builder::build;
 use coding::Decoded;
 use coding::Encoded;
 use forecast::forecast;
@@ -163,14 +164,7 @@ pub extern "C" fn staplethread_build(
     ensures cost { λ _. ⌜ now (cost .exit) ≡ costAfter (now (cost .entry)) (building (now (card .entry)) (now (table .entry)) .answer) ⌝ }
     ensures depth { λ _. ⌜ now (depth .exit) ≡ depthAfter (now (depth .entry)) (building (now (card .entry)) (now (table .entry)) .answer) ⌝ }
 {
-    put_report(
-        builder::build(card, table),
-        gates,
-        products,
-        squares,
-        cost,
-        depth,
-    )
+    put_report(build(card, table), gates, products, squares, cost, depth)
 }
 
 // The base table of a plain card at the start of the first lent bytes, the best step size's within the depth
