@@ -1,5 +1,5 @@
 -- The order polynomial by its coefficients: one for each exponent, most of them 0.
-use Prim.Native.Nat.{ℕ, _-_, _%_, _^_}
+use Prim.Native.Nat.{ℕ, _-_, _%_}
 use mathlib.Core.Bool.{Bool, true, false, _&&_, _||_}
 use lib.Dec.{eqb, ltb}
 use Rattle.field.specs.Polynomials.{orderConstant}
