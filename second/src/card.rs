@@ -9,6 +9,8 @@ pub const HEAD_BYTES: usize = 6;
 pub const CONDITION_BYTES: usize = 4;
 pub const HEAD_MARK: [u8; 2] = [0xC5, 0x48];
 pub const CONDITION_MARK: [u8; 2] = [0xC5, 0x51];
+/// c is 1 to 8.
+pub const MOST_CONDITIONS: usize = 8;
 
 /// "A score card has head mark 0xC5 0x53 and condition records of 6 bytes: mark
 /// 0xC5 0x57, relation, n, weight, spare 0."
@@ -149,7 +151,10 @@ impl Card {
         demand(is_listed(p), refusal::PRIME)?;
         demand(is_weight(weight), refusal::WEIGHT)?;
         demand(spare == 0, refusal::SPARE)?;
-        demand((1..=8).contains(&count), refusal::CONDITION_COUNT)?;
+        demand(
+            (1..=MOST_CONDITIONS).contains(&usize::from(count)),
+            refusal::CONDITION_COUNT,
+        )?;
         demand(
             rest.len() == form.condition_bytes() * usize::from(count),
             refusal::CARD_LENGTH,
@@ -203,10 +208,15 @@ impl Card {
 pub fn card_bytes(p: u8, weight: u8, conditions: &[(u8, u8)]) -> Vec<u8> {
     let mut card = head_bytes(Form::Plain, p, weight, conditions.len());
     for &(relation, n) in conditions {
-        card.extend(CONDITION_MARK);
-        card.extend([relation, n]);
+        card.extend(condition_bytes(relation, n));
     }
     card
+}
+
+/// One condition's record of a plain card.
+pub fn condition_bytes(relation: u8, n: u8) -> [u8; CONDITION_BYTES] {
+    let [m0, m1] = CONDITION_MARK;
+    [m0, m1, relation, n]
 }
 
 /// The bytes of a score card with these conditions, each a relation, an n and

@@ -1,8 +1,8 @@
 //! The query builder: cards, gate tables, the plain run of a table, digit
 //! coding and a forecast, as the document on the builder's rules has them, and
 //! scored queries, constants near zero, the last-use list, products that nothing
-//! uses, two conditions over the same field and fewer products by a step size, as
-//! the requests for them do.
+//! uses, two conditions over the same field, fewer products by a step size and
+//! cards filled in condition by condition, as the requests for them do.
 
 pub mod build;
 pub mod card;
@@ -10,6 +10,7 @@ pub mod cases;
 pub mod digits;
 pub mod direct;
 pub mod field;
+pub mod filling;
 pub mod forecast;
 pub mod last_use;
 pub mod listing;
@@ -28,6 +29,7 @@ pub use build::build;
 pub use cases::cases;
 pub use digits::{decode, encode};
 pub use direct::expected_output;
+pub use filling::Filling;
 pub use forecast::forecast;
 pub use last_use::last_uses;
 pub use listing::listing;

@@ -1,6 +1,6 @@
 //! The numbers of "Operations and what they turn away", and those of scored
-//! queries, of the last-use list, of two conditions over the same field and of
-//! step sizes.
+//! queries, of the last-use list, of two conditions over the same field, of step
+//! sizes and of cards filled in condition by condition.
 
 /// A refusal answers its number and nothing else.
 pub type Refusal = u8;
@@ -34,6 +34,8 @@ pub const TOTAL_WEIGHT: Refusal = 26;
 pub const USES_ROOM: Refusal = 27;
 pub const FIRST_SLOT: Refusal = 28;
 pub const DEPTH_CAP: Refusal = 29;
+pub const NINTH_CONDITION: Refusal = 30;
+pub const NO_BUILD: Refusal = 31;
 
 /// `Ok` where the condition holds, else the refusal.
 pub fn demand(condition: bool, refusal: Refusal) -> Result<(), Refusal> {

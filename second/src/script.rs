@@ -2,6 +2,7 @@
 
 use crate::build::build;
 use crate::digits::{decode, encode};
+use crate::filling::Filling;
 use crate::forecast::forecast;
 use crate::last_use::last_uses;
 use crate::refusal::Refusal;
@@ -27,6 +28,8 @@ struct Areas {
     work: Vec<u8>,
     digits: Vec<u8>,
     uses: Vec<u16>,
+    /// The build that may be open.
+    filling: Filling,
 }
 
 /// The words of one line, taken from the front.
@@ -69,6 +72,7 @@ impl Areas {
             work: vec![9; WORK_AREA],
             digits: vec![7; DIGIT_AREA],
             uses: vec![9; USE_AREA],
+            filling: Filling::new(),
         }
     }
 
@@ -83,33 +87,36 @@ impl Areas {
             "forecast" => Some(self.forecast(&mut words)),
             "build" => Some(self.build(&mut words)),
             "build_within" => Some(self.build_within(&mut words)),
+            "begin" => Some(self.begin(&mut words)),
+            "add" => Some(self.add(&mut words)),
+            "finish" => Some(self.finish()),
             "check" => Some(answer("", check(self.current_table()))),
             "trim" => Some(format!("length {}", trim(self.current_table()).len())),
             "run" => Some(self.run(&mut words)),
             "last_uses" => Some(self.last_uses(&mut words)),
             "encode" => Some(self.encode(&mut words)),
             "decode" => Some(self.decode(&mut words)),
-            "table" => {
-                self.put_table(&mut words);
+            other => {
+                self.lay(other, &mut words);
                 None
             }
-            "set" => {
-                let place: usize = words.number();
-                self.table[place] = words.number();
-                None
-            }
-            "cut" => {
-                self.length = words.number();
-                None
-            }
-            "swap" => {
-                std::mem::swap(&mut self.table, &mut self.second_table);
-                None
-            }
-            _ => panic!("not a command: {line}"),
         };
         words.finish();
         answer
+    }
+
+    /// The commands that lay the table area and have no answer.
+    fn lay(&mut self, command: &str, words: &mut Words) {
+        match command {
+            "table" => self.put_table(words),
+            "set" => {
+                let place: usize = words.number();
+                self.table[place] = words.number();
+            }
+            "cut" => self.length = words.number(),
+            "swap" => std::mem::swap(&mut self.table, &mut self.second_table),
+            _ => panic!("not a command: {}", words.line),
+        }
     }
 
     fn forecast(&self, words: &mut Words) -> String {
@@ -133,6 +140,27 @@ impl Areas {
         let second = &mut self.second_table[..second_room];
         let outcome = build_within(&card, cap, first, second);
         answer("", outcome) + &lent_bytes(first) + &lent_bytes(second)
+    }
+
+    fn begin(&mut self, words: &mut Words) -> String {
+        let p = words.number();
+        let weight = words.number();
+        let lent = &mut self.table[..self.length];
+        let outcome = self.filling.begin(p, weight, lent).map(|()| "done");
+        answer("", outcome) + &lent_bytes(lent)
+    }
+
+    fn add(&mut self, words: &mut Words) -> String {
+        let record = words.bytes();
+        let lent = &mut self.table[..self.length];
+        let outcome = self.filling.add(&record, lent).map(|()| "done");
+        answer("", outcome) + &lent_bytes(lent)
+    }
+
+    fn finish(&mut self) -> String {
+        let lent = &mut self.table[..self.length];
+        let outcome = self.filling.finish(lent);
+        answer("", outcome) + &lent_bytes(lent)
     }
 
     fn run(&mut self, words: &mut Words) -> String {

@@ -83,6 +83,27 @@ fn the_example_of_two_tables() {
     assert_eq!(answers(script), expected);
 }
 
+/// The build's state is kept from line to line; the current table is lent to each
+/// call.
+#[test]
+fn the_example_of_a_filling() {
+    let script = "finish\nadd -\ncut 8\nbegin 3 75\ncheck\nfinish\nadd C5510101\n\
+                  cut 64\nadd C5510101\ncheck\nrun 7 00 01\nfinish\nfinish\ncut 10\nbegin 4 0\n";
+    let expected = "finish: refused 31, lent -\n\
+        add -: refused 31, lent -\n\
+        begin 3 75: done, lent 4748034B00000000\n\
+        check: refused 13\n\
+        finish: refused 31, lent 4748034B00000000\n\
+        add C5510101: refused 11, lent 4748034B00000000\n\
+        add C5510101: done, lent checksum 35754\n\
+        check: gates 7 products 0 squares 1 cost 75 depth 1\n\
+        run 7 00 01: output 1, lent 00010201020201\n\
+        finish: gates 7 products 0 squares 1 cost 75 depth 1, lent checksum 35754\n\
+        finish: refused 31, lent checksum 35754\n\
+        begin 4 0: refused 3, lent 4748034B010007004754\n";
+    assert_eq!(answers(script), expected);
+}
+
 /// "S starts at 1, and each byte in turn makes it (257 S + byte) modulo 65521."
 fn checksum(bytes: &[u8]) -> u32 {
     let step = |sum: u32, &byte: &u8| (257 * sum + u32::from(byte)) % 65_521;
@@ -114,8 +135,8 @@ fn the_example() {
 fn the_script_keeps_its_form() {
     let script = cases();
     assert!(script.is_ascii() && script.ends_with('\n') && !script.contains('\r'));
-    assert!(script.len() <= 365_000);
-    assert!((3_000..=15_000).contains(&script.lines().count()));
+    assert!(script.len() <= 377_735);
+    assert!((3_000..=17_000).contains(&script.lines().count()));
     assert_eq!(script, cases());
     for line in script.lines() {
         let words: Vec<&str> = line.split(' ').collect();
@@ -131,7 +152,9 @@ fn the_script_keeps_its_form() {
                     && (2..4).all(|i| number(i) <= 65_600)
                     && list(4) <= 64
             }
-            "check" | "trim" | "swap" => words.len() == 1,
+            "begin" => words.len() == 3 && (1..3).all(|i| number(i) <= 255),
+            "add" => words.len() == 2 && list(1) <= 64,
+            "check" | "trim" | "swap" | "finish" => words.len() == 1,
             "run" => words.len() == 4 && number(1) <= 8_200 && list(2) <= 64 && list(3) <= 64,
             "last_uses" => words.len() == 2 && number(1) <= 8_200,
             "encode" => {
@@ -161,10 +184,13 @@ fn each_refusal_of_each_operation_comes_up() {
                 .or_default() += 1;
         }
     }
-    let expected: [(&str, &[u8]); 8] = [
+    let expected: [(&str, &[u8]); 11] = [
         ("forecast", &[1, 2, 3, 4, 5, 6, 7, 8, 9, 10, 25, 26, 28]),
         ("build", &[1, 2, 3, 4, 5, 6, 7, 8, 9, 10, 11, 25, 26, 28]),
         ("build_within", &[1, 2, 3, 4, 5, 6, 7, 8, 9, 10, 11, 29]),
+        ("begin", &[3, 4, 11]),
+        ("add", &[2, 7, 8, 9, 10, 11, 30, 31]),
+        ("finish", &[11, 31]),
         ("check", &[2, 3, 4, 5, 12, 13, 14, 15, 16, 17]),
         ("run", &[2, 3, 4, 5, 12, 13, 14, 15, 16, 17, 18, 19, 20]),
         ("last_uses", &[2, 3, 4, 5, 12, 13, 14, 15, 16, 17, 27]),
@@ -236,6 +262,9 @@ fn each_kind_of_answer_comes_up() {
         ("build", "gates "),
         ("build_within", "part 1 "),
         ("build_within", "part 2 "),
+        ("begin", "done"),
+        ("add", "done"),
+        ("finish", "gates "),
         ("check", "gates "),
         ("trim", "length 0"),
         ("trim", "length 64"),
@@ -286,7 +315,9 @@ fn checked_tables(script: &str, text: &str) -> Vec<(Vec<u8>, Option<u8>)> {
         let mut parts = line.split(' ');
         match parts.next() {
             Some("table") => table = bytes(parts.next().unwrap()),
-            Some("build" | "build_within" | "swap" | "cut") => table.clear(),
+            Some("build" | "build_within" | "begin" | "add" | "finish" | "swap" | "cut") => {
+                table.clear();
+            }
             Some("set") => {
                 let place: usize = parts.next().unwrap().parse().unwrap();
                 if let Some(byte) = table.get_mut(place) {
@@ -438,6 +469,8 @@ fn built_runs<'a>(lines: &[(&'a str, Option<&str>)]) -> Vec<BuiltRun<'a>> {
                 second_area = Some((bytes(words[4]), true));
             }
             "swap" => std::mem::swap(&mut area, &mut second_area),
+            // A table that is filled in is no card's.
+            "begin" | "add" if refusal(answer.unwrap()).is_none() => area = None,
             "table" | "set" => area = None,
             "run" => {
                 let output = answer.unwrap().strip_prefix("output ");

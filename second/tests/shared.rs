@@ -436,7 +436,10 @@ struct Asked {
 fn asked() -> Vec<Asked> {
     let script = cases();
     let text = answers(&script);
-    let mut lines = text.lines().filter(|line| !line.starts_with("build"));
+    let writes = ["build", "begin ", "add ", "finish"];
+    let mut lines = text
+        .lines()
+        .filter(|line| !writes.iter().any(|word| line.starts_with(word)));
     let mut asked = Vec::new();
     each_question(&script, |words, table| {
         let (line, answer) = lines.next().unwrap().split_once(": ").unwrap();

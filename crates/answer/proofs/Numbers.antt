@@ -6,7 +6,7 @@ use Prim.Native.Nat.{ℕ}
 use lib.Dec.{eqb}
 use Rattle.answer.specs.Numbers.{refusalNumber}
 use Rattle.answer.specs.declared.Refusal.{Refusal}
-use Rattle.answer.specs.declared.Refusal.the-variants.{CardTooShort, WrongMark, PrimeNotListed, WeightOutOfRange, SpareNotZero, ConditionCount, CardLength, UnknownRelation, DigitCount, TooManyDigits, TableBufferTooSmall, TableHeadTooShort, SlotCount, GateCount, TableTooShort, UnknownKind, WrongOperand, ListLength, ValueTooLarge, WorkBufferTooSmall, OutBufferTooSmall, NumberTooLarge, DigitTooLarge, NumberTooWide, ScoreWeight, TotalWeight, LastUseListTooShort, LeftSlotsOutOfRange, DepthAboveCap}
+use Rattle.answer.specs.declared.Refusal.the-variants.{CardTooShort, WrongMark, PrimeNotListed, WeightOutOfRange, SpareNotZero, ConditionCount, CardLength, UnknownRelation, DigitCount, TooManyDigits, TableBufferTooSmall, TableHeadTooShort, SlotCount, GateCount, TableTooShort, UnknownKind, WrongOperand, ListLength, ValueTooLarge, WorkBufferTooSmall, OutBufferTooSmall, NumberTooLarge, DigitTooLarge, NumberTooWide, ScoreWeight, TotalWeight, LastUseListTooShort, LeftSlotsOutOfRange, DepthAboveCap, TooManyConditions, NoOpenBuild}
 
 from-one : (why : Refusal) → eqb (refusalNumber why) 0 ≡ false
 from-one CardTooShort = refl
@@ -38,6 +38,8 @@ from-one TotalWeight = refl
 from-one LastUseListTooShort = refl
 from-one LeftSlotsOutOfRange = refl
 from-one DepthAboveCap = refl
+from-one TooManyConditions = refl
+from-one NoOpenBuild = refl
 
 pub not-zero : {n : ℕ} (why : Refusal) → n ≡ refusalNumber why → eqb n 0 ≡ false
 not-zero why e = ap (λ (k : ℕ). eqb k 0) e ∙ from-one why

@@ -1,7 +1,7 @@
--- The number of each refusal (document 01, "Operations and what they turn away"; document 02, E1, E4, E6 and E7), with the rule that gives it.
+-- The number of each refusal (document 01, "Operations and what they turn away"; document 02, E1, E4, E6, E7 and E8), with the rule that gives it.
 use Prim.Native.Nat.{ℕ}
 use Rattle.answer.specs.declared.Refusal.{Refusal}
-use Rattle.answer.specs.declared.Refusal.the-variants.{CardTooShort, WrongMark, PrimeNotListed, WeightOutOfRange, SpareNotZero, ConditionCount, CardLength, UnknownRelation, DigitCount, TooManyDigits, TableBufferTooSmall, TableHeadTooShort, SlotCount, GateCount, TableTooShort, UnknownKind, WrongOperand, ListLength, ValueTooLarge, WorkBufferTooSmall, OutBufferTooSmall, NumberTooLarge, DigitTooLarge, NumberTooWide, ScoreWeight, TotalWeight, LastUseListTooShort, LeftSlotsOutOfRange, DepthAboveCap}
+use Rattle.answer.specs.declared.Refusal.the-variants.{CardTooShort, WrongMark, PrimeNotListed, WeightOutOfRange, SpareNotZero, ConditionCount, CardLength, UnknownRelation, DigitCount, TooManyDigits, TableBufferTooSmall, TableHeadTooShort, SlotCount, GateCount, TableTooShort, UnknownKind, WrongOperand, ListLength, ValueTooLarge, WorkBufferTooSmall, OutBufferTooSmall, NumberTooLarge, DigitTooLarge, NumberTooWide, ScoreWeight, TotalWeight, LastUseListTooShort, LeftSlotsOutOfRange, DepthAboveCap, TooManyConditions, NoOpenBuild}
 
 abbrev pub refusalNumber : Refusal → ℕ
 -- card under 6 bytes
@@ -62,3 +62,7 @@ refusalNumber LastUseListTooShort = 27
 refusalNumber LeftSlotsOutOfRange = 28
 -- neither the base table nor any step size's within the depth cap
 refusalNumber DepthAboveCap = 29
+-- a ninth condition
+refusalNumber TooManyConditions = 30
+-- no build is open, or none of its conditions is added yet
+refusalNumber NoOpenBuild = 31

@@ -5,7 +5,7 @@ ghost use Rattle.answer.specs.Numbers.{refusalNumber};
 ghost use Rattle.answer.specs.Report.{costOf};
 
 // Why an operation turns its input away: one name for each number of document 01, "Operations and
-// what they turn away", and of document 02, E1, E4, E6 and E7, in the order of the numbers.
+// what they turn away", and of document 02, E1, E4, E6, E7 and E8, in the order of the numbers.
 pub enum Refusal {
     CardTooShort,
     WrongMark,
@@ -36,6 +36,8 @@ pub enum Refusal {
     LastUseListTooShort,
     LeftSlotsOutOfRange,
     DepthAboveCap,
+    TooManyConditions,
+    NoOpenBuild,
 }
 
 // The number of a refusal.
@@ -72,6 +74,8 @@ pub fn refusal_number(why: Refusal) -> u8
         Refusal::LastUseListTooShort => 27,
         Refusal::LeftSlotsOutOfRange => 28,
         Refusal::DepthAboveCap => 29,
+        Refusal::TooManyConditions => 30,
+        Refusal::NoOpenBuild => 31,
     }
 }
 
@@ -90,7 +94,13 @@ pub struct Report {
     pub depth: Depth,
 }
 
-// What Build, Forecast and Check answer.
+// What an operation answers that tells no value.
+pub enum Settled {
+    Done,
+    Refused(Refusal),
+}
+
+// What Build, Forecast and Check answer, and the end of a build that is filled in condition by condition.
 pub enum Reported {
     Success(Report),
     Refused(Refusal),

@@ -17,7 +17,7 @@ ghost use Rattle.card.specs.Conditions.{ReadAs};
 ghost use Rattle.builder.specs.Report.{reportIs};
 
 // The report on gates that were counted while they were written; the last is the output.
-fn report_of(written: Written, weight: u8) -> Report
+pub fn report_of(written: Written, weight: u8) -> Report
     requires { ⌜ written .pen .products + written .pen .squares ≤ mostGates ⌝ }
     ensures { λ r. ⌜ reportAnswer (Success r) ≡ accepted (reportIs (written .pen) (written .node .depth) weight) ⌝ }
 {

@@ -22,7 +22,7 @@ pub const PLAIN_HEAD: [u8; 2] = [0xC5, 0x48];
 
 const PLAIN_RECORD: [u8; 2] = [0xC5, 0x51];
 
-const PLAIN_SIZE: usize = 4;
+pub const PLAIN_SIZE: usize = 4;
 
 const SCORE_HEAD: [u8; 2] = [0xC5, 0x53];
 
@@ -77,7 +77,7 @@ pub struct Record {
 }
 
 // The condition of a record, or why the record is refused.
-enum RecordRead {
+pub enum RecordRead {
     Read(Record),
     Refused(Refusal),
 }
@@ -244,7 +244,7 @@ fn read_counted(bytes: &[u8], form: Form, prime: u8, slot: u8, relation: Relatio
 }
 
 // The condition of the record that the bytes begin with, where slot is the next that is free, or the first of its rules that is broken.
-fn read_record(bytes: &[u8], form: Form, prime: u8, slot: u8) -> RecordRead
+pub fn read_record(bytes: &[u8], form: Form, prime: u8, slot: u8) -> RecordRead
     requires { ⌜ recordSize (formIs form) ≤ length (now bytes) ⌝ }
     ensures { λ r. ⌜ recordAnswer r ≡ readCondition (formIs form) prime slot (now (bytes .entry)) ⌝ }
 {

@@ -2,8 +2,8 @@
 // comparison with the stored output.
 use answer::Depth;
 use answer::Reported;
+use answer::Settled;
 use coding::Decoded;
-use coding::Encoded;
 use libc::STDIN_FILENO;
 use libc::STDOUT_FILENO;
 use liveness::Listed;
@@ -182,6 +182,37 @@ fn build_within(
     build_within_lent(line, table, &mut second[..room], place, out)
 }
 
+fn begin(
+    line: &[u8],
+    state: &mut [u16; 24],
+    table: &mut [u8],
+    place: usize,
+    out: &mut [u8],
+) -> usize {
+    let prime = script::byte_of(script::word(line, 1));
+    let weight = script::byte_of(script::word(line, 2));
+    let end = put_done(packing::begin(state, prime, weight, table), place, out);
+    put_lent(table, end, out)
+}
+
+fn add(
+    line: &[u8],
+    state: &mut [u16; 24],
+    table: &mut [u8],
+    place: usize,
+    out: &mut [u8],
+) -> usize {
+    let mut bytes = [0; LIST];
+    let count = script::put_list(script::word(line, 1), &mut bytes);
+    let end = put_done(packing::add(state, &bytes[..count], table), place, out);
+    put_lent(table, end, out)
+}
+
+fn finish(state: &mut [u16; 24], table: &mut [u8], place: usize, out: &mut [u8]) -> usize {
+    let end = put_report(packing::finish(state, table), place, out);
+    put_lent(table, end, out)
+}
+
 fn trim(table: &[u8], place: usize, out: &mut [u8]) -> usize {
     put_named(b"length ", checker::trim(table).len() as u64, place, out)
 }
@@ -248,10 +279,10 @@ fn last_uses(line: &[u8], table: &[u8], uses: &mut [u16], place: usize, out: &mu
     last_uses_lent(table, &mut uses[..room], place, out)
 }
 
-fn put_done(answer: Encoded, place: usize, out: &mut [u8]) -> usize {
+fn put_done(answer: Settled, place: usize, out: &mut [u8]) -> usize {
     match answer {
-        Encoded::Done => put(b"done", place, out),
-        Encoded::Refused(why) => put_refusal(why, place, out),
+        Settled::Done => put(b"done", place, out),
+        Settled::Refused(why) => put_refusal(why, place, out),
     }
 }
 
@@ -287,6 +318,7 @@ fn put_answer(
     line: &[u8],
     table: &mut [u8],
     second: &mut [u8],
+    state: &mut [u16; 24],
     work: &mut [u8],
     uses: &mut [u16],
     digits: &mut [u8],
@@ -297,6 +329,9 @@ fn put_answer(
         Command::Forecast => forecast(line, place, out),
         Command::Build => build(line, table, place, out),
         Command::BuildWithin => build_within(line, table, second, place, out),
+        Command::Begin => begin(line, state, table, place, out),
+        Command::Add => add(line, state, table, place, out),
+        Command::Finish => finish(state, table, place, out),
         Command::Check => put_report(checker::check(table), place, out),
         Command::Trim => trim(table, place, out),
         Command::Run => run(line, table, work, place, out),
@@ -318,6 +353,7 @@ fn print_answer(
     line: &[u8],
     table: &mut [u8],
     second: &mut [u8],
+    state: &mut [u16; 24],
     work: &mut [u8],
     uses: &mut [u16],
     digits: &mut [u8],
@@ -325,7 +361,18 @@ fn print_answer(
 ) {
     let copied = put(line, 0, out);
     let place = put(b": ", copied, out);
-    let end = put_answer(command, line, table, second, work, uses, digits, place, out);
+    let end = put_answer(
+        command,
+        line,
+        table,
+        second,
+        state,
+        work,
+        uses,
+        digits,
+        place,
+        out,
+    );
     let count = put_byte(b'\n', end, out);
     print_first(count, out);
 }
@@ -368,6 +415,7 @@ fn carry_out(
     table: &mut [u8],
     current: usize,
     second: &mut [u8],
+    state: &mut [u16; 24],
     work: &mut [u8],
     uses: &mut [u16],
     digits: &mut [u8],
@@ -387,6 +435,7 @@ fn carry_out(
             line,
             &mut table[..next],
             second,
+            state,
             work,
             uses,
             digits,
@@ -400,6 +449,7 @@ fn carry_out_lines(
     script: &[u8],
     table: &mut [u8],
     second: &mut [u8],
+    state: &mut [u16; 24],
     work: &mut [u8],
     uses: &mut [u16],
     digits: &mut [u8],
@@ -414,6 +464,7 @@ fn carry_out_lines(
             table,
             current,
             second,
+            state,
             work,
             uses,
             digits,
@@ -426,6 +477,7 @@ fn carry_out_lines(
 fn run_script(script: &[u8]) {
     let mut table = [7; TABLE];
     let mut second = [5; TABLE];
+    let mut state = [0; 24];
     let mut work = [9; WORK];
     let mut uses = [9; USES];
     let mut digits = [7; DIGITS];
@@ -434,6 +486,7 @@ fn run_script(script: &[u8]) {
         script,
         &mut table,
         &mut second,
+        &mut state,
         &mut work,
         &mut uses,
         &mut digits,

@@ -64,6 +64,11 @@ unfolding gatesBytes
 length-gates [] = refl
 length-gates (g ∷ gs) = omega (arith, length-gates gs)
 
+pub bytes-append : (gs hs : List Gate) → gatesBytes (gs ++ hs) ≡ gatesBytes gs ++ gatesBytes hs
+unfolding gatesBytes
+bytes-append [] hs = refl
+bytes-append (g ∷ gs) hs = ap (λ (t : List ℕ). gateBytes g ++ t) (bytes-append gs hs)
+
 module _ (head : Head) (count : ℕ) where
   -- the bytes of a head by its slot counts, of which there are two sorts
   abbrev bytesBy : SlotCounts → List ℕ

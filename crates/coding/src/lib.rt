@@ -1,5 +1,6 @@
 // Digit coding: Encode and Decode.
 use answer::Refusal;
+use answer::Settled;
 use digits::MOST_DIGITS;
 ghost use mathlib.Core.Path.{_≡_};
 ghost use mathlib.Core.Bool.{true};
@@ -7,16 +8,12 @@ ghost use mathlib.Core.List.{_++_};
 ghost use Prim.Native.Nat.{_+_, _-_, _*_, _^_, _≤_, _<_};
 ghost use lib.Dec.{ltb};
 ghost use lib.ListN.{length, drop};
+ghost use Rattle.answer.specs.Settled.{settledAnswer};
 ghost use Rattle.field.specs.Byte.{byteValues};
 ghost use Rattle.digits.specs.Number.{base as baseOf, allBelow, digitsOf};
-ghost use Rattle.coding.specs.Answers.{encodeAnswer, decodeAnswer};
+ghost use Rattle.coding.specs.Answers.{decodeAnswer};
 ghost use Rattle.digits.specs.Encoding.{encoding};
 ghost use Rattle.digits.specs.Decoding.{totalOf, decoding};
-
-pub enum Encoded {
-    Done,
-    Refused(Refusal),
-}
 
 pub enum Decoded {
     Number(u64),
@@ -72,28 +69,28 @@ fn put_digits(x: u64, base: u64, n: usize, out: &mut [u8])
 }
 
 // Writes number as n digits at the start of out, or refuses and leaves out as it is.
-pub fn encode(p: u8, n: usize, number: u64, out: &mut [u8]) -> Encoded
-    ensures answers { λ r. ⌜ encodeAnswer r ≡ encoding p n number (now (out .entry)) .answer ⌝ }
+pub fn encode(p: u8, n: usize, number: u64, out: &mut [u8]) -> Settled
+    ensures answers { λ r. ⌜ settledAnswer r ≡ encoding p n number (now (out .entry)) .answer ⌝ }
     ensures leaves { λ r. ⌜ now (out .exit) ≡ encoding p n number (now (out .entry)) .lent ⌝ }
 {
     if !arithmetic::is_listed(p) {
-        return Encoded::Refused(Refusal::PrimeNotListed);
+        return Settled::Refused(Refusal::PrimeNotListed);
     }
     if n < 1 {
-        return Encoded::Refused(Refusal::DigitCount);
+        return Settled::Refused(Refusal::DigitCount);
     }
     if MOST_DIGITS < n {
-        return Encoded::Refused(Refusal::DigitCount);
+        return Settled::Refused(Refusal::DigitCount);
     }
     if out.len() < n {
-        return Encoded::Refused(Refusal::OutBufferTooSmall);
+        return Settled::Refused(Refusal::OutBufferTooSmall);
     }
     let base = base_of(p);
     if !is_below_power(number, base, n) {
-        return Encoded::Refused(Refusal::NumberTooLarge);
+        return Settled::Refused(Refusal::NumberTooLarge);
     }
     put_digits(number, base, n, out);
-    Encoded::Done
+    Settled::Done
 }
 
 // Whether each digit is below base.

@@ -11,7 +11,9 @@ ghost use Prim.Native.Nat.{_≤_};
 ghost use lib.ListN.{length};
 ghost use Rattle.constants.specs.Constants.{mostConstants};
 ghost use Rattle.powers.specs.Powers.{mostPowers};
+ghost use Rattle.powers.specs.Prepared.{Prepared};
 ghost use Rattle.tree.specs.Factors.{Shallow};
+ghost use Rattle.writer.specs.Modulus.{Modulus};
 ghost use Rattle.writer.specs.Nodes.{nodeIs};
 ghost use Rattle.writer.specs.Pen.{fresh, Wrote, Moved};
 ghost use Rattle.query.specs.Form.{Score, questionOf};
@@ -82,14 +84,22 @@ fn has_order(card: &[u8], head: CardHead) -> bool
     false
 }
 
-// The order constants of a prime, as SCALEs have them, and the depths of the powers, which only conditions with an order relation ask for.
+// What order digits go by: the order constants of a prime, as SCALEs have them, and the depths of the powers.
+pub fn prepare(prime: u8, constants: &mut [u16], powers: &mut [u16])
+    requires { ⌜ Modulus prime × (mostConstants ≤ length (now constants)) × (mostPowers ≤ length (now powers)) ⌝ }
+    ensures { λ _. ⌜ Prepared prime (now (constants .exit)) (now (powers .exit)) ⌝ }
+{
+    constants::put_order_constants(prime, constants);
+    powers::put_power_depths(prime as u16, powers);
+}
+
+// What order digits go by, which only conditions with an order relation ask for.
 pub fn prepare_order(card: &[u8], head: CardHead, constants: &mut [u16], powers: &mut [u16])
     requires { ⌜ ReadAs (now card) head × (mostConstants ≤ length (now constants)) × (mostPowers ≤ length (now powers)) ⌝ }
     ensures { λ _. ⌜ Ready (head .prime) (conditionsOf (now (card .entry))) (now (constants .exit)) (now (powers .exit)) ⌝ }
 {
     if has_order(card, head) {
-        constants::put_order_constants(head.prime, constants);
-        powers::put_power_depths(head.prime as u16, powers);
+        prepare(head.prime, constants, powers);
     }
 }
 

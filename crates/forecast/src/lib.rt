@@ -8,14 +8,16 @@ use card::Question;
 use relations::Relation;
 ghost use mathlib.Core.Path.{_≡_};
 ghost use mathlib.Core.Bool.{true, false};
-ghost use Prim.Native.Nat.{_*_, _^_, _≤_};
+ghost use Prim.Native.Nat.{ℕ, _*_, _^_, _≤_};
 ghost use Rattle.answer.specs.Outcome.{accepted};
 ghost use Rattle.answer.specs.Report.{reportAnswer};
 ghost use Rattle.answer.specs.declared.Reported.the-variants.{Success};
 ghost use Rattle.field.specs.Logarithm.{clog};
 ghost use Rattle.digits.specs.Number.{mostDigits};
 ghost use Rattle.comparison.specs.Bits.{ones};
+ghost use Rattle.comparison.specs.Formulas.{conditionSize};
 ghost use Rattle.query.specs.Card.{mostConditions};
+ghost use Rattle.query.specs.Form.{conditionAt};
 ghost use Rattle.query.specs.Formulas.{endSize, endProducts};
 ghost use Rattle.query.specs.Outcomes.{forecasting};
 ghost use Rattle.forecast.specs.Counting.{mostInDigit, mostBeforeFlip, mostInCondition, Within, digitCounts, joinedCounts, endedCounts, conditionCounts, totalsOf, TotalsWithin, InRanges, levelsOf, reportFrom};
@@ -143,6 +145,15 @@ fn count_condition(relation: Relation, n: u8, order: Counts, equality: Counts) -
         return end_condition(relation, join_order(n, order));
     }
     end_condition(relation, join_equality(n, equality))
+}
+
+// The gates of a condition, wherever its slots are and whatever it weighs.
+pub fn condition_size(relation: Relation, n: u8, prime: u8) -> u16
+    requires { ⌜ (1 ≤ n) × (n ≤ mostDigits) × (3 ≤ prime) ⌝ }
+    ensures { λ r. ⌜ ((left right weight : ℕ) → r ≡ conditionSize prime (conditionAt left right (relationIs relation) n weight)) ⌝ }
+{
+    let own = count_condition(relation, n, order_digit(prime), equality_digit(prime));
+    own.gates as u16
 }
 
 // What the conditions of a card that was read have together.

@@ -9,12 +9,13 @@ use mathlib.Core.Logic.{_≢_, _↔_}
 use Prim.Native.Nat.{ℕ, zero, suc, _+_, _*_, _≤_, _<_}
 use native.Mathlib.Omega.{arith}
 use native.Mathlib.Decide.{decLt}
-use borrow.Author.Tests.{lt-ltb, le-ltb}
+use borrow.Author.Tests.{lt-ltb, le-ltb, ltb-false}
 use lib.Dec.{ltb, eqb}
 use lib.ListN.{length, drop}
 use lib.Seq.{take-at, drop-at}
-use Rattle.answer.specs.Outcome.{Answer, refused, accepted, numbered}
-use Rattle.answer.proofs.Outcome.{refused≢accepted, only-rule, accepted-keeps, refuse-keeps, onAnswer-keeps, Refuses, accepted-refuses, refuse-refuses, onAnswer-refuses, numbered-refuses}
+use Rattle.answer.specs.Outcome.{Answer, refused, accepted, Outcome, unaltered, numbered}
+use Rattle.answer.specs.Report.{Report}
+use Rattle.answer.proofs.Outcome.{refused≢accepted, accepted-same, passed, only-rule, accepted-keeps, refuse-keeps, onAnswer-keeps, Refuses, accepted-refuses, refuse-refuses, onAnswer-refuses, numbered-refuses}
 use Rattle.field.specs.Primes.{listed}
 use Rattle.digits.specs.Number.{mostDigits, wrongCount}
 use Rattle.circuit.specs.Bytes.{byte, wrongMark}
@@ -85,6 +86,19 @@ room-decides bytes lent card e = (
     there (yes l) h = l
     there (no n) h =
         absurd (refused≢accepted (sym (rw (e, le-ltb (length lent) (tableRoom (tableOf card)) (omega arith)) at h)))
+
+-- Build that answers a report has read a card and had room
+pub build-accepted : (bytes lent : List ℕ) (told : Report) → building bytes lent .answer ≡ accepted told
+    → (card : Card) × (readCard bytes ≡ accepted card) × (tableRoom (tableOf card) ≤ length lent) × (report (tableOf card) ≡ told)
+build-accepted bytes lent told e = go (readCard bytes) refl
+  where
+    go : (r : Answer Card) → readCard bytes ≡ r
+        → (card : Card) × (readCard bytes ≡ accepted card) × (tableRoom (tableOf card) ≤ length lent) × (report (tableOf card) ≡ told)
+    go (refused k) h = absurd (refused≢accepted (rw h at e))
+    go (accepted card) h =
+        let answer : Outcome Report → Answer Report = λ o. o .answer in
+        let a = passed answer (ltb (length lent) (tableRoom (tableOf card))) (unaltered lent 11) _ refl (rw h at e) in
+        (card, h, ltb-false (length lent) (tableRoom (tableOf card)) (a .0), accepted-same (a .1))
 
 pub refusal-keeps : RefusalKeeps
 refusal-keeps bytes lent =

@@ -167,7 +167,7 @@ module _ (bytes : List ℕ) (card : Card) (e : readCard bytes ≡ accepted card)
         all-length head three odd begin (card .conditions) conditions-good,
       )
 
-  sizes-within : overConditions (conditionSize p) (card .conditions) ≤ overConditions (λ (c : Condition). 445 * c .digits) (card .conditions)
+  pub sizes-within : overConditions (conditionSize p) (card .conditions) ≤ overConditions (λ (c : Condition). 445 * c .digits) (card .conditions)
   sizes-within =
       over-mono _ _ (card .conditions)
       (every-map (λ (c : Condition) h. size-within p c three odd (all .prime .high) (h .0)) (card .conditions) conditions-good)

@@ -3,11 +3,11 @@
 -- the conditions follow by induction on the records, the head by its rules one at a time.
 -- Assumes nothing.
 use mathlib.Core.Path.{_≡_, refl, sym, ap, ap₂, subst, _∙_}
-use mathlib.Core.Bool.{true, false, not}
+use mathlib.Core.Bool.{Bool, true, false, not, _&&_, and-assoc}
 use mathlib.Core.List.{List, [], _∷_, _++_}
 use Prim.Native.Nat.{ℕ, zero, suc, _+_, _*_, _≤_, _<_}
 use native.Mathlib.Omega.{arith}
-use native.Mathlib.Nat.{zero-add}
+use native.Mathlib.Nat.{zero-add, add-zero}
 use borrow.Author.Tests.{eq-eqb, le-ltb, eqb-true, not-true, not-false}
 use lib.Dec.{ltb, eqb}
 use lib.ListN.{length, take, drop, length-append, length-drop}
@@ -57,7 +57,7 @@ keeps card t =
       weights = not-true _ (limits .1);
     }
 
-keeps-rules : (card : Card) → Keeps card → keepsRules card ≡ true
+pub keeps-rules : (card : Card) → Keeps card → keepsRules card ≡ true
 keeps-rules card k = rw (k .prime, k .weight, k .count, k .placed, k .slots, k .weights)
 
 -- of the first condition, where this slot is the next that is free, and of the others
@@ -73,10 +73,23 @@ in-slots form p slot c cs t =
     let tail = both (keepsTail form p slot c) _ (count .1) in
     record { count = not-true _ (count .0); tail = tail .0; later = tail .1 }
 
+-- conditions after others take the slots after theirs
+pub placed-append : (form : Form) (p slot : ℕ) (cs ds : List Condition)
+    → inSlots form p slot (cs ++ ds) ≡ (inSlots form p slot cs && inSlots form p (slot + slotsOf cs) ds)
+unfolding inSlots total
+placed-append form p slot [] ds = rw (add-zero slot)
+placed-append form p slot (c ∷ cs) ds =
+    let n = not (wrongCount (c .digits)) in
+    let k = keepsTail form p slot c in
+    let own = inSlots form p (slot + c .digits) cs in
+    let at : slot + c .digits + slotsOf cs ≡ slot + (c .digits + slotsOf cs) = omega arith in
+    ap (λ (b : Bool). n && (k && b)) (placed-append form p (slot + c .digits) cs ds ∙ ap (λ (i : ℕ). own && inSlots form p i ds) at)
+    ∙ rw (and-assoc n (k && own), and-assoc k own)
+
 -- ---- from a card to its bytes and back
 
 module _ (form : Form) (p : ℕ) where
-  read-condition : (slot : ℕ) (c : Condition) (cs : List Condition) (later : List ℕ) → Placed form p slot c cs
+  pub read-condition : (slot : ℕ) (c : Condition) (cs : List Condition) (later : List ℕ) → Placed form p slot c cs
       → readCondition form p slot (conditionBytes form c ++ later) ≡ accepted c
   read-condition slot c cs later h =
       rw (mark-back (recordMarkOf form) (relationNumber (c .relation) ∷ c .digits ∷ (tailBytes form c ++ later)), relation-back (c .relation), h .count)
@@ -160,7 +173,7 @@ six bytes h = four bytes (omega arith) ∙ rw (drop-cons bytes 4 0 (omega arith)
 
 module _ (form : Form) (p : ℕ) where
   -- the bytes of a condition that was read
-  condition-bytes : (slot : ℕ) (bytes : List ℕ) (c : Condition) → recordSize form ≤ length bytes → Says form p slot bytes c
+  pub condition-bytes : (slot : ℕ) (bytes : List ℕ) (c : Condition) → recordSize form ≤ length bytes → Says form p slot bytes c
       → bytes ≡ conditionBytes form c ++ drop (recordSize form) bytes
   condition-bytes slot bytes c l s =
       four bytes (omega (arith, l, record-length form c)) ∙ rw (s .mark .0, s .mark .1, ← s .relation, ← s .tail .digits, s .tail .after l)

@@ -137,6 +137,12 @@ all-outputs t p draft (c ∷ cs) =
     let written = conditionBy t p c (length (draft .gates)) in
     omega (arith, all-outputs t p (add t p draft c) cs, length-append (draft .outputs) (written .output ∷ []))
 
+-- conditions added after others
+pub all-append : (t : Tests) (p : ℕ) (draft : Draft) (cs ds : List Condition) → addAll t p draft (cs ++ ds) ≡ addAll t p (addAll t p draft cs) ds
+unfolding addAll
+all-append t p draft [] ds = refl
+all-append t p draft (c ∷ cs) ds = all-append t p (add t p draft c) cs ds
+
 -- a draft keeps its gates
 pub all-more : (t : Tests) (p : ℕ) (draft : Draft) (cs : List Condition) → length (draft .gates) ≤ length (addAll t p draft cs .gates)
 unfolding addAll

@@ -13,6 +13,9 @@ pub enum Command {
     Forecast,
     Build,
     BuildWithin,
+    Begin,
+    Add,
+    Finish,
     Check,
     Trim,
     Run,
@@ -304,6 +307,15 @@ pub fn command_of(line: &[u8]) -> Command {
     }
     if has_form(line, b"build_within", b"wccl") {
         return Command::BuildWithin;
+    }
+    if has_form(line, b"begin", b"bb") {
+        return Command::Begin;
+    }
+    if has_form(line, b"add", b"l") {
+        return Command::Add;
+    }
+    if has_form(line, b"finish", b"") {
+        return Command::Finish;
     }
     if has_form(line, b"check", b"") {
         return Command::Check;

@@ -4,7 +4,6 @@
 use answer::Depth;
 use builder::build;
 use coding::Decoded;
-use coding::Encoded;
 use forecast::forecast;
 use liveness::Listed;
 use runner::Ran;
@@ -20,6 +19,8 @@ ghost use Rattle.circuit.specs.LastUse.{findingLastUses};
 ghost use Rattle.circuit.specs.Outcomes.{checking, trimming, running};
 ghost use Rattle.query.specs.Outcomes.{building, forecasting};
 ghost use Rattle.offer.specs.Offer.{offering};
+ghost use Rattle.filling.specs.Filling.{beginning, adding, finishing};
+ghost use Rattle.packing.specs.Words.{stateIn, wordsAfter};
 ghost use Rattle.told.specs.Told.{isAccepted, numberAfter, toldOf, whichAfter, lengthAfter, gatesAfter, productsAfter, squaresAfter, costAfter, depthAfter};
 
 // Encode: writes number as n digits at the start of out.
@@ -29,10 +30,7 @@ pub extern "C" fn staplethread_encode(p: u8, n: usize, number: u64, out: &mut [u
     ensures success { λ r. ⌜ eqb r 0 ≡ isAccepted (encoding p n number (now (out .entry)) .answer) ⌝ }
     ensures leaves { λ _. ⌜ now (out .exit) ≡ encoding p n number (now (out .entry)) .lent ⌝ }
 {
-    match coding::encode(p, n, number, out) {
-        Encoded::Done => 0,
-        Encoded::Refused(why) => answer::refusal_number(why),
-    }
+    told::number_of(coding::encode(p, n, number, out))
 }
 
 // Decode: the number that the digits stand for.
@@ -199,6 +197,61 @@ pub extern "C" fn staplethread_build_within(
         within::build_within(card, Depth(cap), first, second),
         which,
         part_length,
+        gates,
+        products,
+        squares,
+        cost,
+        depth,
+    )
+}
+
+// Begins a build that is filled in condition by condition: the head of a table of no gates. The state is
+// lent as words, all 0 at the start, and belongs to the library from then on.
+#[no_mangle]
+pub extern "C" fn staplethread_begin(state: &mut [u16; 24], p: u8, s: u8, table: &mut [u8]) -> u8
+    ensures status { λ r. ⌜ r ≡ refusalIn (beginning (stateIn (now (state .entry))) p s (now (table .entry)) .answer) ⌝ }
+    ensures success { λ r. ⌜ eqb r 0 ≡ isAccepted (beginning (stateIn (now (state .entry))) p s (now (table .entry)) .answer) ⌝ }
+    ensures words { λ _. ⌜ now (state .exit) ≡ wordsAfter (now (state .entry)) (beginning (stateIn (now (state .entry))) p s (now (table .entry))) ⌝ }
+    ensures leaves { λ _. ⌜ now (table .exit) ≡ beginning (stateIn (now (state .entry))) p s (now (table .entry)) .lent ⌝ }
+{
+    told::number_of(packing::begin(state, p, s, table))
+}
+
+// Adds the condition of a record: its gates after those so far, and the head anew.
+#[no_mangle]
+pub extern "C" fn staplethread_add(state: &mut [u16; 24], bytes: &[u8], table: &mut [u8]) -> u8
+    ensures status { λ r. ⌜ r ≡ refusalIn (adding (stateIn (now (state .entry))) (now (bytes .entry)) (now (table .entry)) .answer) ⌝ }
+    ensures success { λ r. ⌜ eqb r 0 ≡ isAccepted (adding (stateIn (now (state .entry))) (now (bytes .entry)) (now (table .entry)) .answer) ⌝ }
+    ensures words { λ _. ⌜ now (state .exit) ≡ wordsAfter (now (state .entry)) (adding (stateIn (now (state .entry))) (now (bytes .entry)) (now (table .entry))) ⌝ }
+    ensures leaves { λ _. ⌜ now (table .exit) ≡ adding (stateIn (now (state .entry))) (now (bytes .entry)) (now (table .entry)) .lent ⌝ }
+{
+    told::number_of(packing::add(state, bytes, table))
+}
+
+// Ends the table with the product tree over the conditions' outputs, tells the report on it, and closes
+// the build.
+#[no_mangle]
+pub extern "C" fn staplethread_finish(
+    state: &mut [u16; 24],
+    table: &mut [u8],
+    gates: &mut u16,
+    products: &mut u16,
+    squares: &mut u16,
+    cost: &mut u32,
+    depth: &mut u16,
+) -> u8
+    ensures status { λ r. ⌜ r ≡ refusalIn (finishing (stateIn (now (state .entry))) (now (table .entry)) .answer) ⌝ }
+    ensures success { λ r. ⌜ eqb r 0 ≡ isAccepted (finishing (stateIn (now (state .entry))) (now (table .entry)) .answer) ⌝ }
+    ensures words { λ _. ⌜ now (state .exit) ≡ wordsAfter (now (state .entry)) (finishing (stateIn (now (state .entry))) (now (table .entry))) ⌝ }
+    ensures leaves { λ _. ⌜ now (table .exit) ≡ finishing (stateIn (now (state .entry))) (now (table .entry)) .lent ⌝ }
+    ensures gates { λ _. ⌜ now (gates .exit) ≡ gatesAfter (now (gates .entry)) (finishing (stateIn (now (state .entry))) (now (table .entry)) .answer) ⌝ }
+    ensures products { λ _. ⌜ now (products .exit) ≡ productsAfter (now (products .entry)) (finishing (stateIn (now (state .entry))) (now (table .entry)) .answer) ⌝ }
+    ensures squares { λ _. ⌜ now (squares .exit) ≡ squaresAfter (now (squares .entry)) (finishing (stateIn (now (state .entry))) (now (table .entry)) .answer) ⌝ }
+    ensures cost { λ _. ⌜ now (cost .exit) ≡ costAfter (now (cost .entry)) (finishing (stateIn (now (state .entry))) (now (table .entry)) .answer) ⌝ }
+    ensures depth { λ _. ⌜ now (depth .exit) ≡ depthAfter (now (depth .entry)) (finishing (stateIn (now (state .entry))) (now (table .entry)) .answer) ⌝ }
+{
+    put_report(
+        packing::finish(state, table),
         gates,
         products,
         squares,

@@ -1,14 +1,27 @@
-// A report, and which of two tables it is of, told through lent numbers.
+// What an operation answers, told as a number, and a report, and which of two tables it is of, told through lent numbers.
 use answer::Report;
 use answer::Reported;
+use answer::Settled;
 use within::Offered;
 ghost use mathlib.Core.Path.{_≡_};
 ghost use Prim.Native.Nat.{_+_, _*_};
 ghost use lib.Dec.{eqb};
 ghost use Rattle.answer.specs.Outcome.{refusalIn};
 ghost use Rattle.answer.specs.Report.{reportAnswer};
+ghost use Rattle.answer.specs.Settled.{settledAnswer};
 ghost use Rattle.within.specs.Handed.{handedAnswer};
 ghost use Rattle.told.specs.Told.{isAccepted, toldOf, whichAfter, lengthAfter, gatesAfter, productsAfter, squaresAfter, costAfter, depthAfter};
+
+// 0 for an operation that is done, or the number of the refusal.
+pub fn number_of(answer: Settled) -> u8
+    ensures status { λ r. ⌜ r ≡ refusalIn (settledAnswer answer) ⌝ }
+    ensures success { λ r. ⌜ eqb r 0 ≡ isAccepted (settledAnswer answer) ⌝ }
+{
+    match answer {
+        Settled::Done => 0,
+        Settled::Refused(why) => answer::refusal_number(why),
+    }
+}
 
 // Tells the report, or only the number of the refusal.
 pub fn put_report(

@@ -3,7 +3,7 @@
 -- Assumes nothing.
 use mathlib.Core.Path.{_≡_, refl, sym, ap, ap₂, _∙_}
 use mathlib.Core.Bool.{Bool, true, false}
-use mathlib.Core.List.{List, [], _∷_, _++_}
+use mathlib.Core.List.{List, [], _∷_, _++_, map}
 use Prim.Native.Nat.{ℕ, zero, suc, _+_, _-_, _≤_, _<_, suc-le-suc}
 use native.Mathlib.Omega.{arith}
 use native.Mathlib.Nat.{suc-inj, le-of-suc-le-suc}
@@ -23,6 +23,25 @@ unfolding nodes
 length-nodes [] depths e = refl
 length-nodes (g ∷ gates) [] e = absurd (omega arith)
 length-nodes (g ∷ gates) (d ∷ depths) e = ap suc (length-nodes gates depths (suc-inj e))
+
+-- the gates and the depths of pairs, and the pairs of gates and depths
+pub nodes-gates : (gates depths : List ℕ) → length depths ≡ length gates → map (λ (f : Node). f .gate) (nodes gates depths) ≡ gates
+unfolding nodes
+nodes-gates [] depths e = refl
+nodes-gates (g ∷ gates) [] e = absurd (omega arith)
+nodes-gates (g ∷ gates) (d ∷ depths) e = ap (λ (t : List ℕ). g ∷ t) (nodes-gates gates depths (suc-inj e))
+
+pub nodes-depths : (gates depths : List ℕ) → length depths ≡ length gates → map (λ (f : Node). f .depth) (nodes gates depths) ≡ depths
+unfolding nodes
+nodes-depths [] [] e = refl
+nodes-depths [] (d ∷ depths) e = absurd (omega arith)
+nodes-depths (g ∷ gates) [] e = absurd (omega arith)
+nodes-depths (g ∷ gates) (d ∷ depths) e = ap (λ (t : List ℕ). d ∷ t) (nodes-depths gates depths (suc-inj e))
+
+pub nodes-back : (factors : List Node) → nodes (map (λ (f : Node). f .gate) factors) (map (λ (f : Node). f .depth) factors) ≡ factors
+unfolding nodes
+nodes-back [] = refl
+nodes-back (f ∷ factors) = ap (λ (t : List Node). f ∷ t) (nodes-back factors)
 
 -- as many as are taken
 pub length-factors : (n : ℕ) (gates depths : List ℕ) → n ≤ length gates → n ≤ length depths → length (nodes (take n gates) (take n depths)) ≡ n

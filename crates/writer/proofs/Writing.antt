@@ -12,16 +12,11 @@ use Rattle.circuit.specs.Count.{count, isProduct, isSquare}
 use Rattle.circuit.specs.Gate.{Gate, gateBytes}
 use Rattle.circuit.specs.Table.{gatesBytes, tableBytes, headBytes, Table}
 use Rattle.circuit.proofs.Count.{count-append}
-use Rattle.circuit.proofs.Reading.{length-gates, head-length}
+use Rattle.circuit.proofs.Reading.{length-gates, bytes-append, head-length}
 use Rattle.writer.specs.declared.Pen.{Pen}
 use Rattle.writer.specs.Pen.{laid, Wrote}
 
 -- ---- bytes
-
-pub bytes-append : (gs hs : List Gate) → gatesBytes (gs ++ hs) ≡ gatesBytes gs ++ gatesBytes hs
-unfolding gatesBytes
-bytes-append [] hs = refl
-bytes-append (g ∷ gs) hs = ap (λ (t : List ℕ). gateBytes g ++ t) (bytes-append gs hs)
 
 pub laid-append : (table : List ℕ) (k : ℕ) (gs hs : List Gate) → laid table k (gs ++ hs) ≡ laid (laid table k gs) (k + length gs) hs
 unfolding laid

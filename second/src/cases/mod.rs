@@ -3,6 +3,9 @@
 mod cards;
 mod coding;
 mod constants;
+mod filling_records;
+mod filling_runs;
+mod fillings;
 mod last_uses;
 mod relations;
 mod runs;
@@ -55,5 +58,8 @@ pub fn cases() -> String {
     shared_runs::write(&mut script);
     step_cards::write(&mut script);
     step_runs::write(&mut script);
+    fillings::write(&mut script);
+    filling_records::write(&mut script);
+    filling_runs::write(&mut script);
     script.finish()
 }

@@ -1,6 +1,6 @@
 //! Writes the lines of a case script.
 
-use crate::card::Card;
+use crate::card::{card_bytes, condition_bytes, Card};
 use crate::field::half_range;
 use crate::forecast::{card_report, forecast};
 use crate::random::Random;
@@ -56,6 +56,24 @@ impl Script {
         let [first, second] = rooms_within(cap, card);
         self.build_within(cap, first, second, card);
         (gates_in(first), gates_in(second))
+    }
+
+    pub fn begin(&mut self, p: u8, weight: u8) {
+        self.line(format_args!("begin {p} {weight}"));
+    }
+
+    pub fn add(&mut self, record: &[u8]) {
+        self.line(format_args!("add {}", hex(record)));
+    }
+
+    /// Adds a condition of this relation and n.
+    pub fn add_condition(&mut self, relation: u8, n: u8) {
+        self.add(&condition_bytes(relation, n));
+    }
+
+    /// The command `finish`.
+    pub fn close(&mut self) {
+        self.line("finish");
     }
 
     /// Exchanges the two table areas.
@@ -116,6 +134,18 @@ pub fn rooms_within(cap: u16, card: &[u8]) -> [usize; 2] {
     let second = best_choice(&card, cap).map(|choice| choice.report);
     let second = second.map_or(0, |report| table_bytes(report.gates));
     [table_bytes(card_report(&card).gates), second]
+}
+
+/// The bytes of the table once these conditions of a plain card are added, and
+/// before its product tree is.
+pub fn open_room(p: u8, conditions: &[(u8, u8)]) -> usize {
+    closed_room(p, conditions) - RECORD_BYTES * (conditions.len() - 1)
+}
+
+/// The bytes of the table of a plain card with these conditions.
+pub fn closed_room(p: u8, conditions: &[(u8, u8)]) -> usize {
+    let card = forecast(&card_bytes(p, 50, conditions));
+    table_bytes(card.expect("an accepted card").gates)
 }
 
 /// The gates of a table that takes these bytes.

@@ -1,6 +1,6 @@
 //! The tables that the lines of a script make.
 
-use second::{build, build_within};
+use second::{build, build_within, Filling};
 
 /// Calls back for each line that asks and makes no table: with its words, and
 /// the table that the lines before it have made.
@@ -8,6 +8,7 @@ pub fn each_question(script: &str, mut question: impl FnMut(&[&str], &[u8])) {
     let mut area = vec![7; 65_600];
     let mut second_area = vec![5; 65_600];
     let mut length = 0;
+    let mut filling = Filling::new();
     for line in script.lines() {
         let words: Vec<&str> = line.split(' ').collect();
         let number = |place: usize| words[place].parse::<usize>().unwrap();
@@ -23,6 +24,7 @@ pub fn each_question(script: &str, mut question: impl FnMut(&[&str], &[u8])) {
                 let second = &mut second_area[..number(3)];
                 let _ = build_within(&card, cap, &mut area[..length], second);
             }
+            "begin" | "add" | "finish" => fill(&mut filling, &words, &mut area[..length]),
             "swap" => std::mem::swap(&mut area, &mut second_area),
             "table" => {
                 let table = bytes(words[1]);
@@ -34,6 +36,16 @@ pub fn each_question(script: &str, mut question: impl FnMut(&[&str], &[u8])) {
             _ => question(&words, &area[..length]),
         }
     }
+}
+
+/// A line of a card filled in condition by condition, refused or not.
+fn fill(filling: &mut Filling, words: &[&str], lent: &mut [u8]) {
+    let byte = |place: usize| words[place].parse::<u8>().unwrap();
+    let _ = match words[0] {
+        "begin" => filling.begin(byte(1), byte(2), lent),
+        "add" => filling.add(&bytes(words[1]), lent),
+        _ => filling.finish(lent).map(drop),
+    };
 }
 
 fn bytes(word: &str) -> Vec<u8> {

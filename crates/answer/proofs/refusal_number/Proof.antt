@@ -93,6 +93,12 @@ enum-told-28 c = search needs
 enum-told-29 : tie.Need-enum-told-29
 enum-told-29 c = search needs
 
+enum-told-30 : tie.Need-enum-told-30
+enum-told-30 c = search needs
+
+enum-told-31 : tie.Need-enum-told-31
+enum-told-31 c = search needs
+
 returns : tie.Need-returns
 returns c = ap refusalNumber (sym (c .enum-told .given .1))
 
@@ -180,6 +186,12 @@ returns-28 c = ap refusalNumber (sym (c .enum-told28 .given .1))
 returns-29 : tie.Need-returns-29
 returns-29 c = ap refusalNumber (sym (c .enum-told29 .given .1))
 
+returns-30 : tie.Need-returns-30
+returns-30 c = ap refusalNumber (sym (c .enum-told30 .given .1))
+
+returns-31 : tie.Need-returns-31
+returns-31 c = ap refusalNumber (sym (c .enum-told31 .given .1))
+
 pub refusal-number-spec : {M : Type 1} → statement M
 refusal-number-spec =
     tie.close
@@ -213,6 +225,8 @@ refusal-number-spec =
     enum-told-27
     enum-told-28
     enum-told-29
+    enum-told-30
+    enum-told-31
     returns
     returns-2
     returns-3
@@ -241,4 +255,6 @@ refusal-number-spec =
     returns-26
     returns-27
     returns-28
-    returns-29)
+    returns-29
+    returns-30
+    returns-31)

@@ -8,11 +8,11 @@ use Rattle.cases.proofs.carry_out_lines.Statement.{statement}
 use Rattle.cases.proofs.carry_out_lines.Tie as tie
 
 abbrev Inv-loop : tie.InvT-loop
-Inv-loop script table₀ second₀ work₀ uses₀ digits₀ out₀ current₀ start₀ table second work uses digits out current start =
+Inv-loop script table₀ second₀ state₀ work₀ uses₀ digits₀ out₀ current₀ start₀ table second state work uses digits out current start =
     (length table ≡ length table₀) × (length second ≡ length second₀) × (length work ≡ length work₀) × (length uses ≡ length uses₀) × (length digits ≡ length digits₀) × (length out ≡ length out₀)
 
 abbrev μ-loop : tie.MeasureT-loop
-μ-loop script table₀ second₀ work₀ uses₀ digits₀ out₀ current₀ start₀ table second work uses digits out current start = suc (length script) - start
+μ-loop script table₀ second₀ state₀ work₀ uses₀ digits₀ out₀ current₀ start₀ table second state work uses digits out current start = suc (length script) - start
 
 loop-holds : tie.Need-loop-holds Inv-loop μ-loop
 loop-holds c = search needs

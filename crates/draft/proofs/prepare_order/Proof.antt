@@ -1,37 +1,19 @@
--- `draft::prepare_order` meets its contract: where a condition compares by order the constants and the depths are written, and where none does they are not asked for.
+-- `draft::prepare_order` meets its contract: where a condition compares by order what its digits go by is prepared, and where none does it is not asked for.
 -- Assumes nothing.
 use mathlib.Core.Path.{_≡_, sym, _∙_}
 use mathlib.Core.Bool.{false, true≢false}
-use native.Mathlib.Omega.{arith}
 use borrow.Author.Needs.{needs}
-use Rattle.draft.proofs.Prime.{Usable, prime-usable}
+use Rattle.draft.proofs.Prime.{prime-usable}
 use Rattle.draft.proofs.prepare_order.Statement.{statement}
 use Rattle.draft.proofs.prepare_order.Tie as tie
-
--- ---- the stages, and what is known of the prime
-
-abbrev start : tie.After-has-order → tie.Start
-start o = o .before .before .before .before
-
-abbrev constants : tie.After-put-power-depths-arg → tie.After-put-order-constants
-constants c = c .before .before .before .before
-
-usable : (s : tie.Start) → Usable (s .args .head .prime)
-usable s = prime-usable (s .args .card .now) (s .args .head) (s .pre .0)
 
 has-order-requires : tie.Need-has-order-requires
 has-order-requires c κs = search needs
 
-put-order-constants-requires : tie.Need-put-order-constants-requires
-put-order-constants-requires c κs =
-    let s = start (c .before .before) in omega (arith, usable s, s .pre)
-
-cast-put-power-depths : tie.Need-cast-put-power-depths
-cast-put-power-depths c = search needs
-
-put-power-depths-requires : tie.Need-put-power-depths-requires
-put-power-depths-requires c κs =
-    let s = start (constants c .before .before .before) in (usable s .0, omega (arith, usable s, s .pre))
+prepare-requires : tie.Need-prepare-requires
+prepare-requires c κs =
+    let s = c .before .before .before .before .before .before .before in
+    (prime-usable (s .args .card .now) (s .args .head) (s .pre .0) .0, s .pre .1, s .pre .2)
 
 same-length : tie.Need-same-length
 same-length c = search needs
@@ -40,15 +22,7 @@ same-length-2 : tie.Need-same-length-2
 same-length-2 c = search needs
 
 returns : tie.Need-returns
-returns c asked =
-    let d = c .before .before in
-    let o = constants (d .before) in
-    let s = start (o .before .before .before) in
-    record {
-      scaled = record { later = _; begins = o .put-order-constants .ensures };
-      long = omega (arith, usable s, s .pre, d);
-      deep = d .put-power-depths .ensures;
-    }
+returns c = search needs
 
 returns-2 : tie.Need-returns-2
 returns-2 c asked =
@@ -60,9 +34,7 @@ prepare-order-spec =
     tie.close
     (tie.spec
     has-order-requires
-    put-order-constants-requires
-    cast-put-power-depths
-    put-power-depths-requires
+    prepare-requires
     same-length
     same-length-2
     returns

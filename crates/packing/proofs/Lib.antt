@@ -1,0 +1,3 @@
+-- Laws of the build's state as words.
+pub mod Words
+pub mod Steps
