@@ -2,12 +2,12 @@
  *
  * The rules are those of document 01, "The query builder and its exact rules", and of scored queries,
  * of constants near zero, of last-use lists, of products that nothing uses, of two conditions over the
- * same field and of step sizes those of document 02.
+ * same field, of step sizes and of cards filled in condition by condition those of document 02.
  *
  * A list is a pointer, then its length: in bytes, or of a last-use list in entries of two bytes.
  * Pointers are not null, not even those of empty lists. What a call writes overlaps nothing else that
- * is lent to it. Nothing is kept after a call, nothing is allocated, and calls on separate buffers may
- * run at the same time.
+ * is lent to it. Nothing is kept after a call but what is lent, nothing is allocated, and calls on
+ * separate buffers may run at the same time.
  *
  * Every operation but Trim answers 0 on success, or the number of its refusal. A refusal leaves
  * every lent byte, entry and number unaltered. Where several rules are broken, the number is that of
@@ -33,9 +33,9 @@ typedef struct staplethread_cost {
     uint32_t hundredths;
 } staplethread_cost;
 
-/* What Build, Forecast and Check answer, and Build within a depth cap of the part handed back: the gate
- * count G, the products, the squares, the cost (100 times the products plus s times the squares) and
- * the depth. */
+/* What Build, Forecast, Check and Finish answer, and Build within a depth cap of the part handed back: the
+ * gate count G, the products, the squares, the cost (100 times the products plus s times the squares)
+ * and the depth. */
 typedef struct staplethread_report {
     uint16_t gates;
     uint16_t products;
@@ -132,6 +132,52 @@ uint8_t staplethread_build_within(const uint8_t *card, size_t card_length, uint1
                                   uint16_t *gates, uint16_t *products, uint16_t *squares,
                                   uint32_t *cost, uint16_t *depth);
 
+/* ---- A plain card filled in condition by condition
+ *
+ * Begin, then Add for each condition, then Finish. Every call is lent the same table and the same state,
+ * and nobody else writes either meanwhile. What Finish leaves in the table, and what it answers, is what
+ * Build does for the whole card over the bytes that Begin found. An accepted Begin starts afresh, also
+ * over an open build; an accepted Finish closes the build; a refused call changes neither the table nor
+ * the state.
+ *
+ * Check and Run may come in between: while the build is open the head tells the slots and gates so far,
+ * and Run answers the newest condition; before the first one Check gives 13.
+ */
+
+/* The build's state: all words are 0 at the start, when no build is open, and belong to the calls below
+ * from then on. By words that no accepted call leaves no build is open. */
+typedef struct staplethread_state {
+    uint16_t words[24];
+} staplethread_state;
+
+#define STAPLETHREAD_NO_BUILD {{0}}
+
+/* Begin: fills the first 8 bytes of table with the head of a table of no slots and no gates.
+ *  3  p not one of the odd primes from 3 to 251
+ *  4  s not 50 to 100
+ * 11  table lent under 8 bytes */
+uint8_t staplethread_begin(staplethread_state *state, uint8_t p, uint8_t s,
+                           uint8_t *table, size_t table_length);
+
+/* Add: the gates of the condition in record, of 4 bytes, after those so far, and the head anew.
+ * 31  no build is open
+ * 30  eight conditions are added already
+ *  7  length not 4
+ *  2  mark
+ *  8  relation not 1 to 6
+ *  9  n not 1 to 16
+ * 10  more than 16 slots with those so far
+ * 11  table lent under 8(G+1) bytes, G with the gates of the condition */
+uint8_t staplethread_add(staplethread_state *state, const uint8_t *record, size_t record_length,
+                         uint8_t *table, size_t table_length);
+
+/* Finish: the product tree over the conditions' outputs, and the head anew.
+ * 31  no build is open, or no condition is added
+ * 11  table lent under 8(G+1) bytes */
+uint8_t staplethread_finish(staplethread_state *state, uint8_t *table, size_t table_length,
+                            uint16_t *gates, uint16_t *products, uint16_t *squares,
+                            uint32_t *cost, uint16_t *depth);
+
 /* ---- Gate tables
  *
  * A table has 8(G+1) bytes. Later bytes are not looked at. Its head has the mark 0x47 0x48, and both
@@ -226,6 +272,15 @@ static inline uint8_t staplethread_build_within_report(const uint8_t *card, size
                                      which, part_length,
                                      &report->gates, &report->products, &report->squares,
                                      &report->cost.hundredths, &report->depth.levels);
+}
+
+static inline uint8_t staplethread_finish_report(staplethread_state *state,
+                                                 uint8_t *table, size_t table_length,
+                                                 staplethread_report *report)
+{
+    return staplethread_finish(state, table, table_length,
+                               &report->gates, &report->products, &report->squares,
+                               &report->cost.hundredths, &report->depth.levels);
 }
 
 static inline uint8_t staplethread_check_report(const uint8_t *table, size_t table_length,

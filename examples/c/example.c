@@ -8,12 +8,14 @@
  */
 #include <stdio.h>
 #include <stdlib.h>
+#include <string.h>
 
 #include "staplethread.h"
 
 /* p = 31, so a digit is below B = 16. No table is longer than 8 * 8192 bytes. */
 enum { PRIME = 31, WEIGHT = 75, DISTANCE_DIGITS = 3, GRADE_DIGITS = 1, SLOTS = 4 };
 enum { LONGEST_TABLE = 8 * 8192 };
+enum { HEAD = 6, RECORD = 4 };
 
 static const uint8_t card[] = {
     0xC5, 0x48, PRIME, WEIGHT, 2, 0,
@@ -61,6 +63,20 @@ static unsigned most_held(const uint16_t *list, unsigned gates)
     return most;
 }
 
+/* The card filled in condition by condition, as it comes in over the radio. */
+static staplethread_report fill_in(uint8_t *table, size_t table_length)
+{
+    staplethread_state state = STAPLETHREAD_NO_BUILD;
+    staplethread_report report;
+    size_t i;
+
+    expect("begin", staplethread_begin(&state, PRIME, WEIGHT, table, table_length));
+    for (i = HEAD; i < sizeof card; i += RECORD)
+        expect("add", staplethread_add(&state, card + i, RECORD, table, table_length));
+    expect("finish", staplethread_finish_report(&state, table, table_length, &report));
+    return report;
+}
+
 int main(void)
 {
     static const struct { uint64_t distance, grade; } records[] = { { 34, 4 }, { 12, 5 } };
@@ -89,6 +105,9 @@ int main(void)
     print_report("check", report);
     expect("last_uses", staplethread_last_uses(table, table_length, list, report.gates, &gates));
     printf("held at once: at most %u of %u\n", most_held(list, gates), (unsigned)gates);
+
+    print_report("finish", fill_in(stepped, sizeof stepped));
+    printf("as built in one go: %s\n", memcmp(stepped, table, table_length) == 0 ? "yes" : "no");
 
     /* Is there a cheaper table that is no deeper? */
     expect("build_within", staplethread_build_within_report(card, sizeof card, report.depth,

@@ -191,6 +191,60 @@ fn within_rows(name: &'static str, card: &[u8]) -> Vec<Row> {
     .collect()
 }
 
+/// A whole card through the library's begin, add and finish.
+fn fill_in(card: &[u8], table: &mut [u8]) {
+    let mut filling = staplethread::Filling::over(table);
+    filling.begin(card[2], card[3]).expect("it has room");
+    for record in card[6..].chunks(4) {
+        filling.add(record).expect("it has room");
+    }
+    keep(filling.finish());
+}
+
+/// The same through the second program's.
+fn plain_fill_in(card: &[u8], table: &mut [u8]) {
+    let mut filling = second::Filling::new();
+    let begun = filling.begin(card[2], card[3], table);
+    begun.expect("it has room");
+    for record in card[6..].chunks(4) {
+        filling.add(record, table).expect("it has room");
+    }
+    keep(filling.finish(table));
+}
+
+/// A plain card filled in condition by condition, against the second program's, which works the table
+/// out anew at each call, and against the second program's Build in one go.
+fn filling_rows(name: &'static str, card: &[u8]) -> Vec<Row> {
+    let report = staplethread::forecast(card).expect("the card is accepted");
+    let calls = GATES_A_TURN / (usize::from(report.gates) + 20);
+    let mut ours = vec![0; report.table_bytes()];
+    let mut theirs = ours.clone();
+    let anew = compare(
+        calls,
+        &mut || fill_in(black_box(card), &mut ours),
+        &mut || plain_fill_in(black_box(card), &mut theirs),
+    );
+    assert_eq!(ours, theirs);
+    let one_go = compare(
+        calls,
+        &mut || fill_in(black_box(card), &mut ours),
+        &mut || keep(second::build(black_box(card), &mut theirs)),
+    );
+    assert_eq!(ours, theirs);
+    [
+        ("Begin, add, finish", anew),
+        ("Begin, add, finish, against Build in one go", one_go),
+    ]
+    .into_iter()
+    .map(|(operation, (library, plain))| Row {
+        operation,
+        card: name,
+        library,
+        plain,
+    })
+    .collect()
+}
+
 /// Sizes that about double, and where the library's arrays grow.
 const SIZES: [u16; 7] = [256, 257, 1_000, 2_000, 2_049, 4_000, 8_191];
 
@@ -276,6 +330,15 @@ fn main() {
     ];
     for (name, card) in &searched {
         print_rows(card, &within_rows(name, card));
+    }
+    let filled = [
+        &cards[0],
+        &cards[1],
+        &("p=31, eight < of 2", card_bytes(31, 75, &[(1, 2); 8])),
+        &cards[cards.len() - 1],
+    ];
+    for (name, card) in filled {
+        print_rows(card, &filling_rows(name, card));
     }
     print_growth();
 }

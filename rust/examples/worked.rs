@@ -1,9 +1,12 @@
 //! "Distance at least 20 m, grade worse than 3": a question, its table, and the answer for two
 //! records; then "how bad is this stretch?", a score over the same two conditions; then "between 20
-//! and 40 m", two conditions over one distance; then what an owner with a deep key saves. Plain digits
-//! stand where the runner has ciphertexts, and how many of these it has to hold at once is printed.
+//! and 40 m", two conditions over one distance; then what an owner with a deep key saves; then the first
+//! question filled in condition by condition. Plain digits stand where the runner has ciphertexts, and how
+//! many of these it has to hold at once is printed.
 
-use staplethread::{build, build_within, encode, forecast, last_uses, run, Depth, Refusal};
+use staplethread::{
+    build, build_within, encode, forecast, last_uses, run, Depth, Filling, Refusal,
+};
 
 /// B = 16: a distance of up to 4,095 m takes three digits, a grade one.
 const P: u8 = 31;
@@ -121,10 +124,39 @@ fn deep_key(card: &[u8], caps: &[u16]) -> Result<(), Refusal> {
     Ok(())
 }
 
+/// A plain card as it comes in, one condition at a time, and each condition's answer for a record; then
+/// the whole card's.
+fn over_the_radio(card: &[u8], record: &[u8], query: &[u8]) -> Result<(), Refusal> {
+    let mut table = vec![0; LONGEST_TABLE];
+    let mut work = vec![0; LONGEST_TABLE / 8 - 1];
+    let mut filling = Filling::over(&mut table);
+    filling.begin(card[2], card[3])?;
+    for condition in card[6..].chunks(4) {
+        filling.add(condition)?;
+        let slots = usize::from(filling.table()[4]);
+        let output = run(
+            filling.table(),
+            &record[..slots],
+            &query[..slots],
+            &mut work,
+        )?;
+        println!("{slots} slots so far, newest condition: {output}");
+    }
+    let report = filling.finish()?;
+    let output = run(filling.table(), record, query, &mut work)?;
+    println!("depth {}, all conditions: {output}", report.depth.0);
+    Ok(())
+}
+
 fn main() -> Result<(), Refusal> {
     stretches(&CARD, &[(34, 4), (12, 5)])?;
     stretches(&SCORE_CARD, &[(34, 4), (12, 5), (34, 2), (12, 1)])?;
     between(&[19, 20, 34, 40, 41])?;
     deep_key(&CARD, &[8, 9])?;
-    deep_key(&GRADE_CARD, &[5, 6])
+    deep_key(&GRADE_CARD, &[5, 6])?;
+    over_the_radio(
+        &CARD,
+        &distance_and_grade(12, 5)?,
+        &distance_and_grade(20, 3)?,
+    )
 }

@@ -29,6 +29,30 @@ extern "C" {
         cost: &mut u32,
         depth: &mut u16,
     ) -> u8;
+    pub fn staplethread_begin(
+        state: &mut [u16; 24],
+        p: u8,
+        s: u8,
+        table: *mut u8,
+        table_length: usize,
+    ) -> u8;
+    pub fn staplethread_add(
+        state: &mut [u16; 24],
+        bytes: *const u8,
+        bytes_length: usize,
+        table: *mut u8,
+        table_length: usize,
+    ) -> u8;
+    pub fn staplethread_finish(
+        state: &mut [u16; 24],
+        table: *mut u8,
+        table_length: usize,
+        gates: &mut u16,
+        products: &mut u16,
+        squares: &mut u16,
+        cost: &mut u32,
+        depth: &mut u16,
+    ) -> u8;
     pub fn staplethread_forecast(
         card: *const u8,
         card_length: usize,

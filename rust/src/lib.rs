@@ -1,10 +1,10 @@
-//! The query builder for encrypted records: nine operations of a proved library, called safely.
+//! The query builder for encrypted records: twelve operations of a proved library, called safely.
 //!
 //! Every function answers for all inputs. A refusal is the rules' number and nothing else, and
 //! leaves every lent byte and entry as it was. A card is a plain one, which asks for a yes or no, a score
 //! card, which asks for the sum of the weights of the conditions that hold, or a shared card, which
 //! asks for a yes or no and whose conditions may be over the same left slots; `build` and `forecast`
-//! take all three, `build_within` plain ones.
+//! take all three, `build_within` plain ones. A [`Filling`] fills a plain card in condition by condition.
 //!
 //! The head of a shared card's table has a slot count for each side, byte 4 the left one and byte 5 the
 //! right one; that of any other has one for both, byte 4. `run` takes lists of these lengths.
@@ -79,6 +79,21 @@ struct Handed {
     report: Report,
 }
 
+/// A plain card that is filled in condition by condition over a lent table: `begin`, `add` for each
+/// condition, `finish`. What `finish` leaves and answers is what [`build`] does for the whole card over the
+/// bytes that `begin` found.
+///
+/// The table stays lent, so nobody else writes it meanwhile; `table` hands it out to be read, by [`check`]
+/// and [`run`] too. While the build is open its head tells the slots and gates so far, and `run` answers
+/// the newest condition; before the first one `check` gives 13.
+///
+/// A refused call changes nothing. An accepted `begin` starts afresh, also over an open build.
+#[derive(Debug)]
+pub struct Filling<'a> {
+    state: [u16; 24],
+    table: &'a mut [u8],
+}
+
 /// Why an operation turns its input away, by the rules' number.
 #[derive(Clone, Copy, Debug, PartialEq, Eq)]
 pub struct Refusal(pub u8);
@@ -138,6 +153,21 @@ fn build_within_into(
             &mut told.report.squares,
             &mut told.report.cost.0,
             &mut told.report.depth.0,
+        )
+    }
+}
+
+fn finish_into(state: &mut [u16; 24], table: &mut [u8], told: &mut Report) -> u8 {
+    unsafe {
+        exports::staplethread_finish(
+            state,
+            table.as_mut_ptr(),
+            table.len(),
+            &mut told.gates,
+            &mut told.products,
+            &mut told.squares,
+            &mut told.cost.0,
+            &mut told.depth.0,
         )
     }
 }
@@ -241,6 +271,53 @@ pub fn build_within<'a>(
     })
 }
 
+impl<'a> Filling<'a> {
+    /// No build is open yet; no byte of the table is changed.
+    pub fn over(table: &'a mut [u8]) -> Filling<'a> {
+        Filling {
+            state: [0; 24],
+            table,
+        }
+    }
+
+    /// Begins a build for the prime p and the weight s of a square: the head of a table of no gates, at
+    /// the start of the lent bytes. Refused with 3, 4, or 11 under 8 bytes; an open build then stays open.
+    pub fn begin(&mut self, p: u8, s: u8) -> Result<(), Refusal> {
+        let (table, length) = (self.table.as_mut_ptr(), self.table.len());
+        let status = unsafe { exports::staplethread_begin(&mut self.state, p, s, table, length) };
+        accepted(status, ())
+    }
+
+    /// Adds the condition of a record of 4 bytes. Refused with 31 where no build is open, 30 for a ninth
+    /// condition, 7 for another length, then 2, 8, 9, 10, and 11 where its gates do not fit.
+    pub fn add(&mut self, record: &[u8]) -> Result<(), Refusal> {
+        let (table, length) = (self.table.as_mut_ptr(), self.table.len());
+        let status = unsafe {
+            exports::staplethread_add(
+                &mut self.state,
+                record.as_ptr(),
+                record.len(),
+                table,
+                length,
+            )
+        };
+        accepted(status, ())
+    }
+
+    /// Ends the table and closes the build. Refused with 31 where no build is open or none is added, and
+    /// with 11 where the table does not fit.
+    pub fn finish(&mut self) -> Result<Report, Refusal> {
+        let mut told = Report::BLANK;
+        let status = finish_into(&mut self.state, self.table, &mut told);
+        accepted(status, told)
+    }
+
+    /// All lent bytes, as they stand.
+    pub fn table(&self) -> &[u8] {
+        self.table
+    }
+}
+
 /// Build's report, from the card only.
 pub fn forecast(card: &[u8]) -> Result<Report, Refusal> {
     let mut told = Report::BLANK;
@@ -312,6 +389,7 @@ mod tests {
         assert_eq!(forecast_into(&CARD[..5], &mut told), 1);
         assert_eq!(build_into(&CARD, &mut table, &mut told), 11);
         assert_eq!(check_into(&table[..7], &mut told), 12);
+        assert_eq!(finish_into(&mut [0; 24], &mut table, &mut told), 31);
         assert_eq!(told, before);
         let before = Handed {
             which: 9,

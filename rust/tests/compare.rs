@@ -14,92 +14,14 @@ use std::cmp::Ordering;
 use std::collections::BTreeMap;
 use std::fmt::Debug;
 
+mod compared;
 mod shapes;
 
-const ROUNDS: u64 = 100_000;
-
-fn rounds() -> u64 {
-    std::env::var("STAPLETHREAD_ROUNDS").map_or(ROUNDS, |text| {
-        text.parse().expect("STAPLETHREAD_ROUNDS is a number")
-    })
-}
+use compared::*;
 
 /// The library finds the best step size by writing the table of each: for sixteen digits at p = 251
 /// that takes some five hundred times as long as Build.
 const ROUNDS_FOR_ONE_CAP: u64 = 10;
-
-/// How often each answer came up: 0 counts successes, other keys are refusals.
-#[derive(Default)]
-struct Seen(BTreeMap<u8, u64>);
-
-impl Seen {
-    fn note<T>(&mut self, answer: &Result<T, u8>) {
-        let key = answer.as_ref().err().copied().unwrap_or(0);
-        *self.0.entry(key).or_default() += 1;
-    }
-
-    /// A comparison that never reached an answer has not compared it.
-    fn expect(&self, name: &str, answers: &[u8]) {
-        println!("{name}: {:?}", self.0);
-        for answer in answers {
-            assert!(
-                self.0.contains_key(answer),
-                "{name}: {answer} never came up"
-            );
-        }
-    }
-}
-
-/// The five numbers, whichever side they come from.
-type Numbers = (u16, u16, u16, u32, u16);
-
-fn library_numbers(r: staplethread::Report) -> Numbers {
-    (r.gates, r.products, r.squares, r.cost.0, r.depth.0)
-}
-
-fn second_numbers(r: second::Report) -> Numbers {
-    (r.gates, r.products, r.squares, r.cost.0, r.depth.0)
-}
-
-fn of_library(answer: Result<staplethread::Report, staplethread::Refusal>) -> Result<Numbers, u8> {
-    number_of(answer.map(library_numbers))
-}
-
-fn of_second(answer: Result<second::Report, second::Refusal>) -> Result<Numbers, u8> {
-    answer.map(second_numbers)
-}
-
-fn number_of<T>(answer: Result<T, staplethread::Refusal>) -> Result<T, u8> {
-    answer.map_err(|why| why.0)
-}
-
-/// What neither side may touch, before and after what is lent.
-const MARGIN: usize = 16;
-
-/// Lends the same to both sides, inside a margin.
-fn compare_lent<E: Copy + PartialEq, T: PartialEq + Debug>(
-    mut ours: Vec<E>,
-    input: &dyn Debug,
-    library: impl FnOnce(&mut [E]) -> Result<T, u8>,
-    plain: impl FnOnce(&mut [E]) -> Result<T, u8>,
-) -> (Result<T, u8>, Vec<E>) {
-    let mut theirs = ours.clone();
-    let lent = MARGIN..ours.len() - MARGIN;
-    let length = lent.len();
-    let answer = library(&mut ours[lent.clone()]);
-    let expected = plain(&mut theirs[lent.clone()]);
-    assert_eq!(answer, expected, "{length} lent, {input:02X?}");
-    if ours != theirs {
-        let place = (0..ours.len()).find(|&i| ours[i] != theirs[i]);
-        panic!("place {place:?} differs, {length} lent, {input:02X?}");
-    }
-    (answer, ours[lent].to_vec())
-}
-
-/// So many random bytes to lend, and those of the margin.
-fn drawn_bytes(random: &mut Random, length: usize) -> Vec<u8> {
-    bytes_of(random.next_u64(), length + 2 * MARGIN)
-}
 
 /// The same of u16.
 fn drawn_entries(random: &mut Random, length: usize) -> Vec<u16> {
@@ -109,31 +31,6 @@ fn drawn_entries(random: &mut Random, length: usize) -> Vec<u16> {
         .collect()
 }
 
-/// Bytes by a seed: eight from each draw, as there are many.
-fn bytes_of(seed: u64, count: usize) -> Vec<u8> {
-    let mut random = Random::new(seed);
-    let mut bytes = Vec::with_capacity(count + 8);
-    while bytes.len() < count {
-        bytes.extend_from_slice(&random.next_u64().to_le_bytes());
-    }
-    bytes.truncate(count);
-    bytes
-}
-
-/// One time in so many.
-fn rarely(random: &mut Random, times: u64) -> bool {
-    random.below(times) == 0
-}
-
-fn prime(random: &mut Random) -> u8 {
-    // Small primes as often as all: their tables are quickly made.
-    match random.below(4) {
-        0 => random.pick(&second::field::PRIMES),
-        1 => random.pick(&[3, 5, 7]),
-        _ => random.pick(&[11, 13, 17, 19, 23, 29, 31]),
-    }
-}
-
 /// A card of any form.
 fn card(random: &mut Random) -> Vec<u8> {
     match random.below(3) {
@@ -141,18 +38,6 @@ fn card(random: &mut Random) -> Vec<u8> {
         1 => shared_card(random),
         _ => plain_card(random),
     }
-}
-
-/// The weight s of a square.
-fn square_weight(random: &mut Random) -> u8 {
-    50 + random.byte_below(51)
-}
-
-/// A relation and an n, for one of so many conditions; now and then n makes more than 16 in all.
-fn condition(random: &mut Random, count: u8) -> (u8, u8) {
-    let most = if rarely(random, 8) { 16 } else { 16 / count };
-    let digits = 1 + random.byte_below(most);
-    (1 + random.byte_below(6), digits)
 }
 
 /// A plain card that is accepted but for a digit count of more than 16 in all.
@@ -223,15 +108,6 @@ fn condition_weights(random: &mut Random, p: u8, count: u8) -> Vec<u8> {
     weights
 }
 
-/// A byte near the borders of the rules, or any.
-fn odd_byte(random: &mut Random) -> u8 {
-    match random.below(3) {
-        0 => random.pick(&[0, 1, 2, 6, 7, 8, 9, 16, 17, 49, 50, 100, 101, 249, 251, 255]),
-        1 => random.pick(&[0x47, 0x48, 0x4A, 0x54, 0xC5, 0x51, 0x52, 0x53, 0x57]),
-        _ => random.next_u64() as u8,
-    }
-}
-
 /// Other bytes at a few places, mostly among the first ones; sometimes cut short or made longer.
 fn damage(random: &mut Random, bytes: &mut Vec<u8>) {
     for _ in 0..random.below(3) {
@@ -253,17 +129,6 @@ fn damage(random: &mut Random, bytes: &mut Vec<u8>) {
         3 => bytes.extend_from_slice(&[0xC5, 0x57, 1, 1, 1, 0]),
         4 => bytes.extend_from_slice(&[0xC5, 0x52, 1, 1, 0, 0]),
         _ => {}
-    }
-}
-
-/// One less, just enough, or more; or none.
-fn room(random: &mut Random, needed: usize) -> usize {
-    match random.below(8) {
-        0 => needed.saturating_sub(1),
-        1 => 0,
-        2 => random.below(needed as u64 + 1) as usize,
-        3 => needed + random.below(40) as usize,
-        _ => needed,
     }
 }
 
@@ -436,30 +301,6 @@ fn list(random: &mut Random, p: u8, slots: usize) -> Vec<u8> {
         list[random.below(length as u64) as usize] = p;
     }
     list
-}
-
-/// What both sides answer to a Check.
-fn compare_check(table: &[u8]) -> Result<Numbers, u8> {
-    let answer = of_library(staplethread::check(table));
-    assert_eq!(answer, of_second(second::check(table)), "{table:02X?}");
-    answer
-}
-
-/// What both sides answer to a Run with so many work bytes.
-fn compare_run(
-    random: &mut Random,
-    table: &[u8],
-    left: &[u8],
-    right: &[u8],
-    length: usize,
-) -> Result<u8, u8> {
-    let (output, _) = compare_lent(
-        drawn_bytes(random, length),
-        &(table, left, right),
-        |work| number_of(staplethread::run(table, left, right, work)),
-        |work| second::run(table, left, right, work),
-    );
-    output
 }
 
 /// What both sides answer to a last-use list of so many entries.
