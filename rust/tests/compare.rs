@@ -12,7 +12,6 @@ use second::card::{
 use second::Random;
 use std::cmp::Ordering;
 use std::collections::BTreeMap;
-use std::fmt::Debug;
 
 mod compared;
 mod shapes;

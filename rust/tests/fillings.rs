@@ -2,17 +2,13 @@
 //! calls, refused ones among them. After each call every lent byte is compared, and what Check and Run
 //! answer; after an accepted finish, what Build leaves of the whole card.
 //!
-//! STAPLETHREAD_ROUNDS sets how many calls are made for each of ten.
+//! STAPLETHREAD_ROUNDS sets how many calls are made, about.
 
 use second::Random;
 
 mod compared;
 
 use compared::*;
-
-/// A call takes some ten times as long to compare as one of the other operations: the whole table is
-/// compared, checked and run after it.
-const ROUNDS_FOR_ONE_CALL: u64 = 10;
 
 /// Calls over one lent table.
 const CALLS: usize = 24;
@@ -132,7 +128,7 @@ fn fillings() {
     let mut random = Random::new(10);
     let (mut begun, mut added, mut finished) = (Seen::default(), Seen::default(), Seen::default());
     let mut conditions = [0u64; 9];
-    for _ in 0..rounds() / ROUNDS_FOR_ONE_CALL / CALLS as u64 + 1 {
+    for _ in 0..rounds() / CALLS as u64 + 1 {
         let length = length(&mut random);
         let mut ours = bytes_of(random.next_u64(), length);
         let theirs = ours.clone();
@@ -142,9 +138,9 @@ fn fillings() {
             table: theirs,
             open: None,
         };
-        for call in 0..CALLS {
+        for _ in 0..CALLS {
             match random.below(16) {
-                _ if call == 0 && !rarely(&mut random, 8) => {
+                _ if both.open.is_none() && !rarely(&mut random, 3) => {
                     begun.note(&both.begin(prime(&mut random), square_weight(&mut random)));
                 }
                 0 => begun.note(&both.begin(odd_byte(&mut random), odd_byte(&mut random))),

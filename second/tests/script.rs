@@ -135,7 +135,7 @@ fn the_example() {
 fn the_script_keeps_its_form() {
     let script = cases();
     assert!(script.is_ascii() && script.ends_with('\n') && !script.contains('\r'));
-    assert!(script.len() <= 377_735);
+    assert!(script.len() <= 400_000);
     assert!((3_000..=17_000).contains(&script.lines().count()));
     assert_eq!(script, cases());
     for line in script.lines() {

@@ -11,12 +11,9 @@ use Rattle.filling.specs.Filling.{Step, settled, beginning, adding, fini
 use Rattle.filling.specs.Promises.{AllAdded, StepKept, Call, Begin, Add, Finish, Log, nothing, since, logged, Standing, called, calledAll, Tells, AnyCalls}
 use Rattle.filling.specs.State.{BuildState, noBuild}
 use Rattle.filling.proofs.Promises.{step-keeps, finish-closes}
+use Rattle.filling.proofs.Steps.{is-settled}
 
 -- ---- accepted calls
-
--- a step that is accepted with no counts is settled
-is-settled : (step : Step Unit) (done : Unit) → step .answer ≡ accepted done → step ≡ settled (step .state) (step .lent)
-is-settled step done e = ap (λ (a : Answer Unit). record { answer = a; state = step .state; lent = step .lent }) e
 
 -- one add more
 added-last : (records : List (List ℕ)) (r : List ℕ) (s₁ s₂ s₃ : BuildState) (table₁ table₂ table₃ : List ℕ)

@@ -36,6 +36,10 @@ module _ {A : Type 0} {a : A} {step : Step A} (state : BuildState) (table : List
   step-answered (refused k) later e = absurd (refused≢accepted (ap (λ (o : Step A). o .answer) e ∙ done))
   step-answered (accepted b) later e = (b, refl, e)
 
+-- a step that is accepted with no counts is settled
+pub is-settled : (step : Step Unit) (done : Unit) → step .answer ≡ accepted done → step ≡ settled (step .state) (step .lent)
+is-settled step done e = ap (λ (a : Answer Unit). record { answer = a; state = step .state; lent = step .lent }) e
+
 -- what an accepted add has passed, and what it leaves
 pub record Added (state : BuildState) (r table : List ℕ) (next : BuildState) (later : List ℕ) : Type 0 where
   pub condition : Condition

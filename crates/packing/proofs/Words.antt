@@ -19,11 +19,13 @@ use Rattle.circuit.specs.Segment.{Node}
 use Rattle.circuit.specs.Table.{leastWeight, mostWeight, wrongWeight}
 use Rattle.query.specs.Card.{mostConditions}
 use Rattle.filling.specs.State.{BuildState}
+use Rattle.filling.proofs.Filled.{opened}
+use Rattle.filling.proofs.Promises.{stays-open}
 use Rattle.tree.specs.Factors.{nodes}
 use Rattle.tree.proofs.Factors.{length-factors, nodes-gates, nodes-depths, nodes-back}
 use Rattle.state.specs.State.{stateIs}
 use Rattle.state.specs.declared.BuildState as declared
-use Rattle.packing.specs.Words.{padded, wordsOf, word, wrongWords, stateIn, WordsBack, FreshWords}
+use Rattle.packing.specs.Words.{padded, wordsOf, word, wrongWords, stateIn, WordsBack, OpenedWords, FreshWords}
 
 -- ---- entries one by one
 
@@ -168,6 +170,12 @@ words-back state t few =
       padded-take depths n b,
       nodes-back (state .outputs),
     )
+
+pub opened-words : OpenedWords
+opened-words p s records found table state o =
+    let begun = stays-open p s records found table state o in
+    let f = opened p s records found table state o in
+    words-back state (begun .0) (omega (arith, begun .1, f .3, f .1 .fillable .few))
 
 pub fresh-words : FreshWords
 unfolding nodes

@@ -11,6 +11,7 @@ use Rattle.field.specs.Bit.{bit}
 use Rattle.circuit.specs.Segment.{Node}
 use Rattle.query.specs.Card.{mostConditions}
 use Rattle.filling.specs.Filling.{Step}
+use Rattle.filling.specs.Promises.{Opened}
 use Rattle.filling.specs.State.{BuildState, noBuild, isClosed}
 use Rattle.tree.specs.Factors.{nodes}
 
@@ -69,6 +70,12 @@ wordsAfter words step = onAnswer (step .answer) (λ number. words) (λ value. wo
 -- "given the build's state as the last accepted begin, add or finish left it": the words of an open build are read back as its state
 abbrev pub WordsBack : Type 0
 WordsBack = (state : BuildState) → isClosed state ≡ false → length (state .outputs) ≤ mostConditions → stateIn (wordsOf state) ≡ state
+
+-- so those of every build that accepted calls have begun
+abbrev pub OpenedWords : Type 0
+OpenedWords =
+    (p s : ℕ) (records : List (List ℕ)) (found table : List ℕ) (state : BuildState) → Opened p s records found state table
+    → stateIn (wordsOf state) ≡ state
 
 -- "at the start no build is open": the words are 24 zeros then, and after an accepted finish again
 abbrev pub FreshWords : Type 0

@@ -6,6 +6,7 @@ use builder::build;
 use coding::Decoded;
 use forecast::forecast;
 use liveness::Listed;
+use packing::finish;
 use runner::Ran;
 use told::put_offered;
 use told::put_report;
@@ -250,12 +251,5 @@ pub extern "C" fn staplethread_finish(
     ensures cost { λ _. ⌜ now (cost .exit) ≡ costAfter (now (cost .entry)) (finishing (stateIn (now (state .entry))) (now (table .entry)) .answer) ⌝ }
     ensures depth { λ _. ⌜ now (depth .exit) ≡ depthAfter (now (depth .entry)) (finishing (stateIn (now (state .entry))) (now (table .entry)) .answer) ⌝ }
 {
-    put_report(
-        packing::finish(state, table),
-        gates,
-        products,
-        squares,
-        cost,
-        depth,
-    )
+    put_report(finish(state, table), gates, products, squares, cost, depth)
 }
