@@ -145,7 +145,8 @@ uint8_t staplethread_build_within(const uint8_t *card, size_t card_length, uint1
  */
 
 /* The build's state: all words are 0 at the start, when no build is open, and belong to the calls below
- * from then on. By words that no accepted call leaves no build is open. */
+ * from then on. Other words are answered too, most of them with 31; of a table that was made by words
+ * which no accepted call left nothing is promised but that no byte beyond it is written. */
 typedef struct staplethread_state {
     uint16_t words[24];
 } staplethread_state;
