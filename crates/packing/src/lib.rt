@@ -41,7 +41,7 @@ fn bit_of(yes: bool) -> u16
 }
 
 // The words of a state.
-pub fn words_of(state: BuildState) -> [u16; 24]
+fn words_of(state: BuildState) -> [u16; 24]
     requires { ⌜ state .count ≤ mostConditions ⌝ }
     ensures { λ r. ⌜ r ≡ wordsOf (stateIs state) ⌝ }
 {
@@ -98,7 +98,7 @@ fn are_wrong(words: [u16; 24]) -> bool
 }
 
 // The state that words tell. Where one of them is too large, no build is open.
-pub fn state_in(words: [u16; 24]) -> BuildState
+fn state_in(words: [u16; 24]) -> BuildState
     ensures { λ r. ⌜ stateIs r ≡ stateIn words ⌝ }
 {
     if are_wrong(words) {
