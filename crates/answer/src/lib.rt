@@ -1,4 +1,6 @@
 // What the operations answer: why one turns its input away, and the report on a table.
+#![tactic(auto)]
+
 ghost use Rattle.std.specs.Prelude.{◌≡◌, ◌<◌, max};
 ghost use Rattle.answer.specs.Numbers.{refusal_number};
 ghost use Rattle.answer.specs.Report.{cost_of};

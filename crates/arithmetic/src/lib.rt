@@ -1,4 +1,6 @@
 // Arithmetic of the prime field: which primes are listed, the operations modulo p, logarithms.
+#![tactic(auto)]
+
 ghost use Rattle.std.specs.Prelude.{◌≡◌, ◌<◌};
 ghost use Rattle.field.specs.Byte.{byte_values};
 ghost use Rattle.field.specs.Member.{member};

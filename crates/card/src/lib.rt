@@ -1,4 +1,6 @@
 // Reading query cards.
+#![tactic(auto)]
+
 ghost use Rattle.std.specs.Prelude.{◌≡◌, ℕ, ◌+◌, ◌*◌, ◌≤◌, ◌<◌, max, length, drop};
 ghost use Rattle.circuit.specs.Bytes.{wrong_mark};
 ghost use Rattle.comparison.specs.Relation.{relation_number};

@@ -1,5 +1,7 @@
 // Reads a case script from standard input and prints what the operations answer, a line a case, for
 // comparison with the stored output.
+#![tactic(auto)]
+
 ghost use Rattle.io.specs.Counts.{IsPrefixLen};
 
 use answer::{Depth, Reported, Settled};

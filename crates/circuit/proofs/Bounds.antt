@@ -2,7 +2,7 @@
 -- Assumes nothing.
 use mathlib.Core.Path.{◌≡◌, refl, subst}
 use mathlib.Core.Bool.{Bool, true, false, not, ◌&&◌}
-use mathlib.Core.List.{List, [], ◌∷◌}
+use mathlib.Core.List.{List, [], ◌∷◌, ◌++◌}
 use Prim.Native.Nat.{ℕ, suc, ◌+◌, ◌*◌, ◌≤◌, ◌<◌, zero-le}
 use native.Mathlib.Omega.{arith}
 use native.Mathlib.Decide.{dec_lt}
@@ -43,7 +43,7 @@ module _ (p : ℕ) (left right : List ℕ) (some : 0 < p) (lefts : all_below p l
   interpret_below earlier [] h = h
   interpret_below earlier (g ∷ gs) h =
       let E = entry_of (values p left right) earlier in
-      interpret_below _ gs (below_append p earlier _ h (rw (lt-ltb (meaning (values p left right) E g) p (value_below E g))))
+      interpret_below (earlier ++ (meaning (values p left right) E g ∷ [])) gs (below_append p earlier _ h (rw (lt-ltb (meaning (values p left right) E g) p (value_below E g))))
 
 pub values_below : ValuesBelow
 unfolding all_below

@@ -32,7 +32,7 @@ Found i other k gs last =
 found : (i other k : ℕ) (gs : List Gate) → Found i other k gs (last_reader i other k gs)
 unfolding last_reader
 found i other k [] = inr (refl, λ m r. r.is)
-found i other k (g ∷ gs) = go (reads i g) refl (found i _ (suc k) gs)
+found i other k (g ∷ gs) = go (reads i g) refl (found i (or_else (reads i g) k other) (suc k) gs)
   where
     -- gate number m + 1 of all is number m of the later ones
     after : (m : ℕ) → Reads (g ∷ gs) (suc m) i → Reads gs m i

@@ -26,7 +26,7 @@ module _ {A B : Type 0} (first : Algebra A) (second : Algebra B) (R : A → B �
   pairs : {us : List A} {vs : List B} (gates : List Gate) → Pairs R us vs → Pairs R (interpret first us gates) (interpret second vs gates)
   unfolding interpret
   pairs [] h = h
-  pairs (g ∷ gs) h = pairs gs (pair_last h (keeps _ _ (pair_at h) g))
+  pairs {us = us} {vs = vs} (g ∷ gs) h = pairs {us = us ++ (meaning first (entry_of first us) g ∷ [])} {vs = vs ++ (meaning second (entry_of second vs) g ∷ [])} gs (pair_last h (keeps _ _ (pair_at h) g))
 
   pub related : (gates : List Gate) (k : ℕ) → R (entry_at first gates k) (entry_at second gates k)
   related gates k = pair_at (pairs gates none) k

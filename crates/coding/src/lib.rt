@@ -1,4 +1,6 @@
 // Digit coding: Encode and Decode.
+#![tactic(auto)]
+
 ghost use Rattle.std.specs.Prelude.{◌≡◌, true, ◌++◌, ◌+◌, ◌-◌, ◌*◌, ◌^◌, ◌≤◌, ◌<◌, ltb, length, drop};
 ghost use Rattle.answer.specs.Settled.{settled_answer};
 ghost use Rattle.field.specs.Byte.{byte_values};

@@ -1,4 +1,6 @@
 // Writing one condition.
+#![tactic(auto)]
+
 ghost use Rattle.std.specs.Prelude.{◌≡◌, true, length};
 ghost use Rattle.field.specs.Bit.{bit};
 ghost use Rattle.digits.specs.Number.{most_digits};

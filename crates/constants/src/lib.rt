@@ -1,4 +1,6 @@
 // The b of SCALEs: of a number modulo p, and of the constants of the order polynomial, all those of a prime at once.
+#![tactic(auto)]
+
 ghost use Rattle.std.specs.Prelude.{◌≡◌, ◌++◌, map, ◌+◌, ◌/◌, ◌%◌, ◌≤◌, ◌<◌, length, drop};
 ghost use Rattle.field.specs.Byte.{byte_values};
 ghost use Rattle.field.specs.Modular.{residue, mul_mod};

@@ -6,6 +6,8 @@
 // - starts: the gate that the chain of this higher operand begins with;
 // - next: the gate that follows this one in its chain.
 // A 0 in the last two is the end of a chain, as gate 0 is no MUL.
+#![tactic(auto)]
+
 ghost use Rattle.std.specs.Prelude.{◌≡◌, ◌+◌, ◌≤◌, ◌<◌, eqb, length, get_or};
 ghost use Rattle.answer.specs.Outcome.{accepted};
 ghost use Rattle.circuit.specs.Count.{products, squares};

@@ -1,4 +1,6 @@
 // The table of a card, written whole.
+#![tactic(auto)]
+
 ghost use Rattle.std.specs.Prelude.{◌≡◌, ◌≤◌, length};
 ghost use Rattle.constants.specs.Constants.{most_constants};
 ghost use Rattle.powers.specs.Powers.{most_powers};

@@ -1,4 +1,6 @@
 // Equality conditions: the zero test of each digit's difference, and the product tree over the digits.
+#![tactic(auto)]
+
 ghost use Rattle.std.specs.Prelude.{◌≡◌, ◌++◌, ◌+◌, ◌-◌, ◌*◌, ◌%◌, ◌^◌, ◌≤◌, ◌<◌, length, take};
 ghost use Rattle.field.specs.Bit.{bit};
 ghost use Rattle.field.specs.Logarithm.{clog};

@@ -78,9 +78,11 @@ opposite_squares p a b h =
 -- ---- minus x is p - 1 times x
 
 pub minus_add : (p x : ℕ) → 0 < p → ((p - 1) * x + x) % p ≡ 0
+minus_add zero x h = elim h [ ]
 minus_add (suc m) x h = simp sub-one (mod_of (suc m) 0 x _ 0 (omega arith) ∙ zero-mod (suc m))
 
 pub minus_product : (p a b : ℕ) → b ≤ p → 0 < p → (a + (p - b)) % p ≡ (a + (p - 1) * b) % p
+minus_product zero a b l h = elim h [ ]
 minus_product (suc m) a b l h = simp sub-one (mod_of (suc m) b 1 _ _ (omega arith))
 
 -- minus x, and x, added to anything
@@ -112,6 +114,7 @@ minus_zero p a b h = (
 
 pub residue_is : (p x : ℕ) → 0 < p → residue p x ≡ x % p
 unfolding residue
+residue_is zero x h = elim h [ ]
 residue_is (suc m) x h = refl
 
 pub residue_below : (p x : ℕ) → 0 < p → residue p x < p

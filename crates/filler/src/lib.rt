@@ -1,5 +1,7 @@
 // A card filled in condition by condition: begin, add and finish. They are given the build's state and give back the next one, and they
 // read no byte of the lent table.
+#![tactic(auto)]
+
 ghost use Rattle.std.specs.Prelude.{◌≡◌, true, ◌≤◌, length, take};
 ghost use Rattle.answer.specs.Numbers.{refusal_number};
 ghost use Rattle.answer.specs.Outcome.{refused};

@@ -1,4 +1,6 @@
 // One gate of a table: its record's word, the rules that it keeps, and its depth.
+#![tactic(auto)]
+
 ghost use Rattle.std.specs.Prelude.{◌≡◌, ◌&&◌, suc, ◌%◌, ◌≤◌, ◌<◌, ltb, eqb, length, get_or};
 ghost use Rattle.circuit.specs.Constant.{is_constant, signed};
 ghost use Rattle.circuit.specs.Reading.{read_fields, read_gate};

@@ -1,4 +1,6 @@
 // Order joining: L and E of digits, or of runs of digits, into one.
+#![tactic(auto)]
+
 ghost use Rattle.std.specs.Prelude.{◌≡◌, [], ◌∷◌, ◌++◌, suc, ◌+◌, ◌-◌, ◌*◌, ◌≤◌, ◌<◌, length};
 ghost use Rattle.circuit.specs.Gate.{Mul};
 ghost use Rattle.circuit.specs.Segment.{times};

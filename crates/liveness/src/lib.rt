@@ -1,4 +1,6 @@
 // The last-use list: for each gate the number of the last gate that reads it.
+#![tactic(auto)]
+
 ghost use Rattle.std.specs.Prelude.{◌≡◌, ◌++◌, ◌≤◌, length, drop};
 ghost use Rattle.answer.specs.Outcome.{accepted};
 ghost use Rattle.circuit.specs.LastUse.{finding_last_uses};

@@ -1,4 +1,6 @@
 // Writing order conditions: the tests of a digit over the powers of its difference or by a step size, and the joining of digits.
+#![tactic(auto)]
+
 ghost use Rattle.std.specs.Prelude.{◌≡◌, [], ◌∷◌, ◌+◌, ◌-◌, ◌≤◌, ◌<◌, length};
 ghost use Rattle.field.specs.Polynomials.{order_exponents};
 ghost use Rattle.digits.specs.Number.{most_digits};

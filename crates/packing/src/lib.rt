@@ -1,4 +1,6 @@
 // The state of a build as words, which programs keep between calls, and begin, add and finish over them.
+#![tactic(auto)]
+
 ghost use Rattle.std.specs.Prelude.{◌≡◌, ◌≤◌, length, take};
 ghost use Rattle.answer.specs.Outcome.{accepted, on_answer};
 ghost use Rattle.answer.specs.Report.{report_answer};

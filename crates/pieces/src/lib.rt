@@ -1,4 +1,6 @@
 // Writing L of a step digit: the terms of a piece, and pieces that split.
+#![tactic(auto)]
+
 ghost use Rattle.std.specs.Prelude.{◌≡◌, ◌+◌, ◌*◌, ◌≤◌, ◌<◌, length};
 ghost use Rattle.field.specs.Byte.{byte_values};
 ghost use Rattle.circuit.specs.Constant.{bits_of};

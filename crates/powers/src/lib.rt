@@ -1,4 +1,6 @@
 // Writing the powers of an order digit's difference, and their depths.
+#![tactic(auto)]
+
 ghost use Rattle.std.specs.Prelude.{◌≡◌, [], ◌∷◌, map, ◌+◌, ◌-◌, ◌/◌, ◌%◌, ◌≤◌, ◌<◌, length, get_or};
 ghost use Rattle.field.specs.Byte.{byte_values};
 ghost use Rattle.field.specs.Half.{half as half_of};

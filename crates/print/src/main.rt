@@ -1,5 +1,7 @@
 // Prints the listing of the card whose bytes are on standard input: its counts and its gates, a line
 // each, or the line of its refusal.
+#![tactic(auto)]
+
 ghost use Rattle.std.specs.Prelude.{◌≡◌, ◌+◌, length, take};
 ghost use Rattle.io.specs.Counts.{IsPrefixLen};
 ghost use Rattle.listing.specs.Listing.{listing};

@@ -54,7 +54,7 @@ conditions_refuse form p slot (suc count) bytes =
     (refuse_refuses (wrong_mark (record_mark_of form) bytes) 2 (omega arith)
     (on_answer_refuses (numbered 8 (byte bytes 2) relations) (numbered_refuses 8 (byte bytes 2) relations (omega arith)) (λ relation.
     refuse_refuses (wrong_count (byte bytes 3)) 9 (omega arith) (tail_refuses form p slot relation (byte bytes 3) bytes))))
-    (λ c. on_answer_refuses _ (conditions_refuse form p _ count (drop (record_size form) bytes)) (λ cs. accepted_refuses))
+    (λ c. on_answer_refuses _ (conditions_refuse form p (slot + c.digits) count (drop (record_size form) bytes)) (λ cs. accepted_refuses))
 
 pub card_refuses : (bytes : List ℕ) → Refuses OfCard (read_card bytes)
 card_refuses bytes =

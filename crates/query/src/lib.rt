@@ -1,1 +1,2 @@
 // Query cards and their tables. Definitions and theorems stand in specs/ and proofs/.
+#![tactic(auto)]

@@ -1,4 +1,6 @@
 // Reading a table: its head, then gate by gate, up to the first rule that is broken. What all operations on tables begin with.
+#![tactic(auto)]
+
 ghost use Rattle.std.specs.Prelude.{◌≡◌, ◌&&◌, ◌≤◌, length, drop};
 ghost use Rattle.digits.specs.Number.{wrong_count};
 ghost use Rattle.circuit.specs.Bytes.{wrong_mark};

@@ -1,4 +1,6 @@
 // Records, as they stand in bytes: marks, numbers of two bytes, ranges, the head of a table, and the gates that a gate reads.
+#![tactic(auto)]
+
 ghost use Rattle.std.specs.Prelude.{◌≡◌, ◌||◌, [], ◌∷◌, ℕ, ◌+◌, ◌≤◌, ◌<◌, ltb, length, take};
 ghost use Rattle.circuit.specs.Bytes.{wrong_mark, u16_at};
 ghost use Rattle.circuit.specs.Every.{Every};

@@ -1,4 +1,6 @@
 // The relations of conditions, and what each asks for.
+#![tactic(auto)]
+
 ghost use Rattle.std.specs.Prelude.{◌≡◌};
 ghost use Rattle.comparison.specs.Relation.{is_order, is_backward, is_flipped};
 ghost use Rattle.relations.specs.Relations.{relation_is};

@@ -1,4 +1,6 @@
 // Run.
+#![tactic(auto)]
+
 ghost use Rattle.std.specs.Prelude.{◌≡◌, true, ◌++◌, ◌+◌, ◌*◌, ◌≤◌, length, drop};
 ghost use Rattle.answer.specs.Outcome.{accepted};
 ghost use Rattle.circuit.specs.Constant.{is_constant, constant, signed};

@@ -1,5 +1,7 @@
 // The lines of a case script: words, numbers and lists, and the command that a line gives. Proved of
 // them are safety and bounds; what they answer is compared.
+#![tactic(auto)]
+
 ghost use Rattle.std.specs.Prelude.{◌≤◌, ◌<◌, min, length};
 ghost use Rattle.io.specs.Counts.{IsPrefixLen};
 

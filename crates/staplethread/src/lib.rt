@@ -1,6 +1,8 @@
 // The operations for programs in Rust and C, over numbers and bytes. Each but Trim answers 0 on success
 // and on success only, else the number of its refusal, which leaves every lent number and byte as it
 // was. Trim turns nothing away and answers a length.
+#![tactic(auto)]
+
 ghost use Rattle.std.specs.Prelude.{◌≡◌, eqb, length, take};
 ghost use Rattle.answer.specs.Outcome.{refusal_in};
 ghost use Rattle.digits.specs.Encoding.{encoding};

@@ -1,4 +1,6 @@
 // The state of a build that is filled in condition by condition.
+#![tactic(auto)]
+
 ghost use Rattle.std.specs.Prelude.{◌≡◌, List, ℕ, ◌≤◌, length, take};
 ghost use Rattle.filling.specs.State.{no_build, started, too_deep, is_closed};
 ghost use Rattle.tree.specs.Factors.{nodes};

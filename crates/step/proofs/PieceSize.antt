@@ -30,12 +30,19 @@ abbrev pub SameSize : Piece → Piece → Type 0
 SameSize a b = (length a.gates ≡ length b.gates) × Alike a.sum b.sum
 
 next_same : (b : Bool) (j k d : ℕ) (g h : Gate) (s t : Sum) → Alike s t → SameSize (next_term b j g d s) (next_term b k h d t)
+next_same false j k d g h (held s) none a = elim a [ ]
+next_same false j k d g h none (held t) a = elim a [ ]
 next_same true j k d g h s t a = (refl, a)
 next_same false j k d g h none none a = (refl, refl)
 next_same false j k d g h (held s) (held t) a = (refl, ap (λ (x : ℕ). max x d) a)
 
 last_same : (m n : Node) (j k : ℕ) (l h l' h' : Sum) → m.depth ≡ n.depth → Alike l l' → Alike h h'
     → (length (last_gates m j l h) ≡ length (last_gates n k l' h')) × Alike (last_sum m j l h) (last_sum n k l' h')
+last_same m n j k (held l) (held h) (held l') none e a b = elim b [ ]
+last_same m n j k (held l) (held h) none _ e a b = elim a [ ]
+last_same m n j k l none l' (held h') e a b = elim b [ ]
+last_same m n j k none (held h) (held l') _ e a b = elim a [ ]
+last_same m n j k none (held h) none none e a b = elim b [ ]
 last_same m n j k l none l' none e a b = (refl, a)
 last_same m n j k none (held h) none (held h') e a b = (refl, ap₂ (λ (x y : ℕ). suc (max x y)) e b)
 last_same m n j k (held l) (held h) (held l') (held h') e a b = (refl, ap₂ max a (ap₂ (λ (x y : ℕ). suc (max x y)) e b))

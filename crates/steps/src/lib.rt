@@ -1,4 +1,6 @@
 // Writing the tests of an order digit for a step size: L by powers and pieces, and E by the binary chain.
+#![tactic(auto)]
+
 ghost use Rattle.std.specs.Prelude.{◌≡◌, ◌+◌, ◌-◌, ◌*◌, ◌^◌, ◌≤◌, ◌<◌, length};
 ghost use Rattle.field.specs.Byte.{byte_values};
 ghost use Rattle.circuit.specs.Segment.{Node as NodeIs};

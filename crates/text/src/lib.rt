@@ -1,4 +1,6 @@
 // Texts and numbers in lent bytes.
+#![tactic(auto)]
+
 ghost use Rattle.text.specs.Text.{labelled, decimal};
 ghost use Rattle.text.specs.Putting.{Puts, Fits};
 

@@ -1,4 +1,6 @@
 // What an operation answers, told as a number, and a report, and which of two tables it is of, told through lent numbers.
+#![tactic(auto)]
+
 ghost use Rattle.std.specs.Prelude.{◌≡◌, ◌+◌, ◌*◌, eqb};
 ghost use Rattle.answer.specs.Outcome.{refusal_in};
 ghost use Rattle.answer.specs.Report.{report_answer};

@@ -1,4 +1,6 @@
 // Writing product trees.
+#![tactic(auto)]
+
 ghost use Rattle.std.specs.Prelude.{◌≡◌, ◌++◌, ◌-◌, ◌≤◌, ◌<◌, length, take, drop};
 ghost use Rattle.circuit.specs.ProductTree.{choose, product_tree};
 ghost use Rattle.tree.specs.Factors.{nodes, without, FirstLeast, Shallow};
