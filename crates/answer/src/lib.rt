@@ -7,7 +7,7 @@ ghost use Rattle.answer.specs.Report.{cost_of};
 
 // Why an operation turns its input away: one name for each number of document 01, "Operations and
 // what they turn away", and of document 02, E1, E4, E6, E7 and E8, in the order of the numbers.
-#[derive(Drop)]
+#[derive(Clone, Copy)]
 pub enum Refusal {
     CardTooShort,
     WrongMark,
@@ -82,15 +82,15 @@ pub fn refusal_number(why: Refusal) -> u8
 }
 
 // Levels. A type of its own, as is Cost, so that levels and hundredths never meet in one sum.
-#[derive(Drop)]
+#[derive(Clone, Copy)]
 pub struct Depth(pub u16);
 
 // Hundredths.
-#[derive(Drop)]
+#[derive(Clone, Copy)]
 pub struct Cost(pub u32);
 
 // The counts of a table.
-#[derive(Drop)]
+#[derive(Clone, Copy)]
 pub struct Report {
     pub gates: u16,
     pub products: u16,
@@ -100,14 +100,14 @@ pub struct Report {
 }
 
 // What an operation answers that tells no value.
-#[derive(Drop)]
+#[derive(Clone, Copy)]
 pub enum Settled {
     Done,
     Refused(Refusal),
 }
 
 // What Build, Forecast and Check answer, and the end of a build that is filled in condition by condition.
-#[derive(Drop)]
+#[derive(Clone, Copy)]
 pub enum Reported {
     Success(Report),
     Refused(Refusal),

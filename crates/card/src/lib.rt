@@ -48,7 +48,7 @@ const MOST_RELATION: usize = 6;
 pub const MOST_CONDITIONS: usize = 8;
 
 // The form of a card, which the mark of its head tells.
-#[derive(Drop)]
+#[derive(Clone, Copy)]
 pub enum Form {
     Plain,
     Scored,
@@ -56,21 +56,21 @@ pub enum Form {
 }
 
 // What a card asks for.
-#[derive(Drop)]
+#[derive(Clone, Copy)]
 pub enum Question {
     YesOrNo,
     Score,
 }
 
 // The form of a card, or why its mark is refused.
-#[derive(Drop)]
+#[derive(Clone, Copy)]
 enum FormRead {
     Read(Form),
     Refused(Refusal),
 }
 
 // The condition of a record: the relation, the digit count, the first slot on each side, and the weight in a score.
-#[derive(Drop)]
+#[derive(Clone, Copy)]
 pub struct Record {
     pub relation: Relation,
     pub digits: u8,
@@ -80,14 +80,14 @@ pub struct Record {
 }
 
 // The condition of a record, or why the record is refused.
-#[derive(Drop)]
+#[derive(Clone, Copy)]
 pub enum RecordRead {
     Read(Record),
     Refused(Refusal),
 }
 
 // The digits of all conditions together, their weights, and where the last of their left slots ends.
-#[derive(Drop)]
+#[derive(Clone, Copy)]
 struct Sums {
     slots: u8,
     weights: u16,
@@ -95,14 +95,14 @@ struct Sums {
 }
 
 // The sums over all conditions, or why a record is refused.
-#[derive(Drop)]
+#[derive(Clone, Copy)]
 enum SumsRead {
     Read(Sums),
     Refused(Refusal),
 }
 
 // The form, the prime, the weight of a square, the condition count, the digits of all conditions and the left slots that they use.
-#[derive(Drop)]
+#[derive(Clone, Copy)]
 pub struct CardHead {
     pub form: Form,
     pub prime: u8,
@@ -113,7 +113,7 @@ pub struct CardHead {
 }
 
 // What an accepted card says as a whole, or why a card is refused.
-#[derive(Drop)]
+#[derive(Clone, Copy)]
 pub enum CardRead {
     Read(CardHead),
     Refused(Refusal),

@@ -22,14 +22,14 @@ use card::CardHead;
 use rating::OrderDigits;
 
 // A step size with the report on its table.
-#[derive(Drop)]
+#[derive(Clone, Copy)]
 pub struct Rated {
     pub step: u16,
     pub told: Report,
 }
 
 // The best step size so far.
-#[derive(Drop)]
+#[derive(Clone, Copy)]
 pub enum Best {
     Nothing,
     Chosen(Rated),

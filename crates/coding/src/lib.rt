@@ -12,7 +12,7 @@ ghost use Rattle.digits.specs.Decoding.{total_of, decoding};
 use answer::{Refusal, Settled};
 use digits::MOST_DIGITS;
 
-#[derive(Drop)]
+#[derive(Clone, Copy)]
 pub enum Decoded {
     Number(u64),
     Refused(Refusal),

@@ -39,21 +39,21 @@ const USED: u16 = 1;
 const FIRST_STAMP: usize = 2;
 
 // The products and squares among the gates of a table that count.
-#[derive(Drop)]
+#[derive(Clone, Copy)]
 pub struct Counts {
     pub products: u16,
     pub squares: u16,
 }
 
 // A MUL's operands by their order, as two MULs have the same pair in either order.
-#[derive(Drop)]
+#[derive(Clone, Copy)]
 struct Pair {
     low: usize,
     high: usize,
 }
 
 // How many different pairs the used MULs have, and how many of these are squares.
-#[derive(Drop)]
+#[derive(Clone, Copy)]
 struct Found {
     pairs: u32,
     squares: u32,

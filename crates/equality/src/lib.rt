@@ -26,7 +26,7 @@ ghost use Rattle.equality.specs.Slots.{equality_condition};
 use writer::{Node, Pen, Slots, Written};
 
 // The power at the first set bit of t, and the bits of t above it.
-#[derive(Drop)]
+#[derive(Clone, Copy)]
 struct Squared {
     power: Written,
     rest: u16,

@@ -28,14 +28,14 @@ use state::BuildState;
 use writer::Slots;
 
 // The state after begin or add, and the answer.
-#[derive(Drop)]
+#[derive(Clone, Copy)]
 pub struct Stepped {
     pub state: BuildState,
     pub answer: Settled,
 }
 
 // The state after finish, and the answer.
-#[derive(Drop)]
+#[derive(Clone, Copy)]
 pub struct Finished {
     pub state: BuildState,
     pub answer: Reported,

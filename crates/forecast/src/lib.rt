@@ -23,7 +23,7 @@ use card::{CardHead, CardRead, Question};
 use relations::Relation;
 
 // How many gates, products and squares there are in a digit or a condition.
-#[derive(Drop)]
+#[derive(Clone, Copy)]
 struct Counts {
     gates: u32,
     products: u32,
@@ -31,7 +31,7 @@ struct Counts {
 }
 
 // The counts of all conditions together, the sum of 2^ceil(log2 n) over them, and the largest digit count.
-#[derive(Drop)]
+#[derive(Clone, Copy)]
 struct Totals {
     gates: u32,
     products: u32,

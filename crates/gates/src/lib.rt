@@ -16,14 +16,14 @@ use records::{GATE_MARK, TableHead};
 const MOST_KIND: usize = 7;
 
 // The depth of a gate, or why it is refused.
-#[derive(Drop)]
+#[derive(Clone, Copy)]
 pub enum GateRead {
     Depth(u16),
     Refused(Refusal),
 }
 
 // What the first four bytes of a record say: its kind, or why it is refused.
-#[derive(Drop)]
+#[derive(Clone, Copy)]
 enum Verdict {
     Kind(u8),
     Refused(Refusal),

@@ -13,7 +13,7 @@ ghost use Rattle.joining.specs.Listed.{node_at, listed_run, listed_whole, Joinab
 use writer::{Node, Pen, Written};
 
 // What joining leaves of a run: the pen, and the nodes of its L and its E.
-#[derive(Drop)]
+#[derive(Clone, Copy)]
 struct Joined {
     pen: Pen,
     less: Node,

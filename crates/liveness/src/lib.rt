@@ -14,7 +14,7 @@ use reader::TableRead;
 use records::RECORD;
 
 // What the last-use list answers.
-#[derive(Drop)]
+#[derive(Clone, Copy)]
 pub enum Listed {
     Gates(u16),
     Refused(Refusal),

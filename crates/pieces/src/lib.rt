@@ -20,14 +20,14 @@ ghost use Rattle.pieces.specs.Sizes.{Sized, Spanned};
 use writer::{Node, Pen};
 
 // A sum of terms: nothing yet, or the node that holds it.
-#[derive(Drop)]
+#[derive(Clone, Copy)]
 pub enum Sum {
     Nothing,
     Held(Node),
 }
 
 // The pen after some terms, and the sum that they leave.
-#[derive(Drop)]
+#[derive(Clone, Copy)]
 pub struct Summed {
     pub pen: Pen,
     pub sum: Sum,

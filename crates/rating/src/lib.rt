@@ -28,7 +28,7 @@ use writer::Pen;
 pub const SCRATCH: usize = records::RECORD * (records::MOST_GATES + 1);
 
 // The order digits of a card, and those of them that are not the lowest of their condition.
-#[derive(Drop)]
+#[derive(Clone, Copy)]
 pub struct OrderDigits {
     pub all: u16,
     pub higher: u16,

@@ -21,7 +21,7 @@ use records::{
 const FEW_GATES: usize = 256;
 
 // What is known of a table once it is read: its gate count, the weight of a square, and its depth.
-#[derive(Drop)]
+#[derive(Clone, Copy)]
 pub struct Outline {
     pub gates: u16,
     pub weight: u8,
@@ -29,14 +29,14 @@ pub struct Outline {
 }
 
 // The outline of a table, or why it is refused.
-#[derive(Drop)]
+#[derive(Clone, Copy)]
 pub enum TableRead {
     Read(Outline),
     Refused(Refusal),
 }
 
 // The head of a table, or why it is refused.
-#[derive(Drop)]
+#[derive(Clone, Copy)]
 enum HeadRead {
     Read(TableHead),
     Refused(Refusal),

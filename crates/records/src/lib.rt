@@ -29,14 +29,14 @@ pub const MOST_WEIGHT: usize = 100;
 pub const MOST_GATES: usize = 8191;
 
 // How many slots the sides have: one count for both, or the left one and the right one.
-#[derive(Drop)]
+#[derive(Clone, Copy)]
 pub enum SlotCounts {
     Both(u8),
     Each(u8, u8),
 }
 
 // The prime, the weight of a square and the slot counts.
-#[derive(Drop)]
+#[derive(Clone, Copy)]
 pub struct TableHead {
     pub prime: u8,
     pub weight: u8,

@@ -6,7 +6,7 @@ ghost use Rattle.comparison.specs.Relation.{is_order, is_backward, is_flipped};
 ghost use Rattle.relations.specs.Relations.{relation_is};
 
 // The relations between left and right, in the order of their numbers.
-#[derive(Drop)]
+#[derive(Clone, Copy)]
 pub enum Relation {
     Less,
     AtMost,

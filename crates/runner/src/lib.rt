@@ -17,7 +17,7 @@ use reader::TableRead;
 use records::{RECORD, TableHead};
 
 // What Run answers.
-#[derive(Drop)]
+#[derive(Clone, Copy)]
 pub enum Ran {
     Output(u8),
     Refused(Refusal),

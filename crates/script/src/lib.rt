@@ -10,7 +10,7 @@ pub const TABLE: usize = 65600;
 
 pub const LIST: usize = 1024;
 
-#[derive(Drop)]
+#[derive(Clone, Copy)]
 pub enum Command {
     Forecast,
     Build,
@@ -32,7 +32,7 @@ pub enum Command {
 }
 
 // A word as a number.
-#[derive(Drop)]
+#[derive(Clone, Copy)]
 enum Parsed {
     Number(u64),
     Malformed,

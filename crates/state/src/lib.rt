@@ -18,7 +18,7 @@ const MOST_LEVELS: u16 = 12;
 
 // Whether a build was begun, its prime and weight, how many conditions and slots were added, how many gates they have and how many
 // products and squares are among these, and the gate and the depth of each condition's output, of which the first count entries are in use.
-#[derive(Drop)]
+#[derive(Clone, Copy)]
 pub struct BuildState {
     pub begun: bool,
     pub prime: u8,

@@ -21,7 +21,7 @@ use pieces::Sum;
 use writer::{Node, Pen, Written};
 
 // The pen after the tests of an order digit, and the nodes of its L and its E. The lowest digit has no E: there it is any node.
-#[derive(Drop)]
+#[derive(Clone, Copy)]
 pub struct Tested {
     pub pen: Pen,
     pub less: Node,
@@ -29,7 +29,7 @@ pub struct Tested {
 }
 
 // How often a step size is doubled until it reaches p-1, and what it is then.
-#[derive(Drop)]
+#[derive(Clone, Copy)]
 struct Doubled {
     count: u16,
     span: u16,

@@ -22,7 +22,7 @@ use card::{CardHead, CardRead, Form};
 use chooser::Best;
 
 // Of which lent table a part is handed back, with the report on that table; or why of none.
-#[derive(Drop)]
+#[derive(Clone, Copy)]
 pub enum Offered {
     First(Report),
     Second(Report),

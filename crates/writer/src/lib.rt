@@ -18,7 +18,7 @@ ghost use Rattle.writer.specs.Pen.{fresh, Wrote, Room, Moved};
 use records::{BOTH_MARK, EACH_MARK, GATE_MARK, RECORD, SlotCounts};
 
 // The number of the next gate, and the products and squares so far.
-#[derive(Drop)]
+#[derive(Clone, Copy)]
 pub struct Pen {
     pub next: u16,
     pub products: u32,
@@ -26,21 +26,21 @@ pub struct Pen {
 }
 
 // A gate with its depth.
-#[derive(Drop)]
+#[derive(Clone, Copy)]
 pub struct Node {
     pub gate: u16,
     pub depth: u16,
 }
 
 // The pen after a gate, and the gate with its depth.
-#[derive(Drop)]
+#[derive(Clone, Copy)]
 pub struct Written {
     pub pen: Pen,
     pub node: Node,
 }
 
 // The digits of a condition: how many, and the first slot on each side.
-#[derive(Drop)]
+#[derive(Clone, Copy)]
 pub struct Slots {
     pub count: u16,
     pub left: u16,
