@@ -1,0 +1,13 @@
+use mathlib.Core.Path.{◌≡◌, ap}
+use Prim.Native.Nat.{suc, max}
+use native.Mathlib.Omega.{arith}
+use Rattle.circuit.specs.Segment.{Node}
+use Rattle.writer.proofs.Writing.{then}
+use Rattle.joining.proofs.put_less.Goals as goal
+
+pub returns-clause-wrote : goal.returns-clause-wrote
+returns-clause-wrote c =
+    let e = c.multiply-both.ensures in
+    let a = c.args in
+    let gate : c.multiply-both.result.pen.next ≡ suc a.pen.next = omega (arith, e.moves) in
+    let depth : c.deeper-depth.result ≡ max a.high.depth (suc (max a.equal.depth a.low.depth)) = omega (arith, ap (λ (n : Node). n.depth) e.deepens) in then e.wrote c.put_add.ensures.wrote
