@@ -22,7 +22,9 @@ overflow_sub-output c =
 
 pub bounds-work-count : goal.bounds-work-count
 bounds-work-count c =
-    omega (arith, c.run_gates.auto.1.1.1.1.1.0, c.if-work-count.false, sub-output c)
+    let table : let s = c.args in
+    Checked s.table.now (head_is c.head_at-head.result) s.count c.left_slots-left_slots.result c.right_slots-right_slots.result c.wide-prime.result = checked c.args.table.now _ c.requires _ _ _ _ c.head_at-head.ensures c.left_slots-left_slots.ensures c.right_slots-right_slots.ensures c.wide-prime.ensures.0 in
+    omega (arith, table.some)
 
 pub returns-clause-answers : goal.returns-clause-answers
 returns-clause-answers c =
