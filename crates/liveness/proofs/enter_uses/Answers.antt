@@ -20,9 +20,10 @@ slice_bounds-enter_operands-count c =
     let record-within : 8 * (c.loop-k.k + 1) + 8 ≤ length c.args.table.now = omega (arith, long c.args.table.now c.args.count c.requires.0, c.loop-k-test.true) in
     omega (arith, record-within)
 
--- ?? slice_bounds-enter_operands-start
 pub slice_bounds-enter_operands-start : goal.slice_bounds-enter_operands-start
-slice_bounds-enter_operands-start c = ?
+slice_bounds-enter_operands-start c =
+    let record-within : 8 * (c.loop-k.k + 1) + 8 ≤ length c.args.table.now = omega (arith, long c.args.table.now c.args.count c.requires.0, c.loop-k-test.true) in
+    omega (arith, record-within)
 
 pub overflow_cast-k : goal.overflow_cast-k
 overflow_cast-k c =
