@@ -3,7 +3,6 @@
 use mathlib.Core.Path.{◌≡◌}
 use mathlib.Core.List.{[], ◌∷◌}
 use Prim.Native.Nat.{ℕ}
-use borrow.Author.Rules.{length_unmapped}
 use denote.Laws.{Is}
 use denote.Struct.Declared as declared
 use denote.Struct.Laws as laws
@@ -19,6 +18,6 @@ Typed state = Is (declared.row the_type) state (laws.val the_type the_laws state
 -- the ninth and the tenth field
 pub eight : (state : BuildState) → Typed state → (length state.outputs ≡ 8) × (length state.depths ≡ 8)
 eight state typed = (
-  length_unmapped ℕ state.outputs 8 typed.1.1.1.1.1.1.1.1.1.1.0.1.0.1,
-  length_unmapped ℕ state.depths 8 typed.1.1.1.1.1.1.1.1.1.1.1.0.1.0.1,
+  typed.1.1.1.1.1.1.1.1.1.1.0.1.0.1,
+  typed.1.1.1.1.1.1.1.1.1.1.1.0.1.0.1,
 )
