@@ -6,11 +6,15 @@ ghost use Rattle.io.specs.Counts.{IsPrefixLen};
 
 use answer::{Depth, Reported, Settled};
 use coding::Decoded;
-use libc::{STDIN_FILENO, STDOUT_FILENO};
 use liveness::Listed;
 use runner::Ran;
 use script::{Command, LIST, TABLE};
 use within::Offered;
+
+// The file descriptors of the standard input and output.
+const STDIN_FILENO: i32 = 0;
+
+const STDOUT_FILENO: i32 = 1;
 
 // The longest script and the other areas, in bytes.
 const SCRIPT: usize = 400000;

@@ -7,7 +7,11 @@ ghost use Rattle.io.specs.Counts.{IsPrefixLen};
 ghost use Rattle.listing.specs.Listing.{listing};
 ghost use Rattle.listing.specs.Promises.{most_card};
 
-use libc::{STDIN_FILENO, STDOUT_FILENO};
+
+// The file descriptors of the standard input and output.
+const STDIN_FILENO: i32 = 0;
+
+const STDOUT_FILENO: i32 = 1;
 
 // One byte more than the longest card has: longer input is refused as these bytes are.
 const INPUT: usize = listing::MOST_CARD + 1;
