@@ -1,4 +1,4 @@
-//! Tells cargo where the static library is that `rt staticlib staplethread` writes.
+//! Tells cargo where the static library is that `tools/build` writes.
 use std::env;
 use std::path::PathBuf;
 
@@ -8,7 +8,7 @@ fn main() {
     let library = folder.join("libstaplethread.a");
     assert!(
         library.exists(),
-        "{} is not there: `rt staticlib staplethread` writes it",
+        "{} is not there: `tools/build` writes it",
         library.display()
     );
     println!("cargo:rerun-if-changed={}", library.display());

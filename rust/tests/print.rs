@@ -1,5 +1,5 @@
 //! The print program as it is run: a card's bytes on standard input, the listing on standard
-//! output, compared with the second program's. `rt check print` writes the program.
+//! output, compared with the second program's. `tools/build` writes the program.
 
 use second::card::{card_bytes, score_card_bytes, shared_card_bytes};
 use second::Random;
@@ -12,7 +12,7 @@ fn printed(input: &[u8]) -> String {
         .stdin(Stdio::piped())
         .stdout(Stdio::piped())
         .spawn()
-        .expect("`rt check print` has written the program");
+        .expect("`tools/build` has written the program");
     let mut pipe = child.stdin.take().expect("it is piped");
     match pipe.write_all(input) {
         // It stops reading where the input is longer than any card.
