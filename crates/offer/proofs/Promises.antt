@@ -4,7 +4,7 @@ use mathlib.Core.Path.{◌≡◌, refl, sym, ap, ap₂, subst, ◌∙◌}
 use mathlib.Core.Bool.{Bool, true, false, not, ◌&&◌, false≢true}
 use mathlib.Core.List.{List, [], ◌++◌}
 use mathlib.Core.Logic.{inl, inr}
-use Prim.Native.Nat.{ℕ, ◌+◌, ◌≤◌, ◌<◌}
+use Prim.Native.Nat.{ℕ, ◌≤◌, ◌<◌}
 use native.Mathlib.Omega.{arith}
 use native.Mathlib.Nat.{le_refl, le_trans}
 use borrow.Author.Tests.{lt-ltb, le-ltb, ltb-true, ltb-false, leb-true, leb-false, lt-leb, not-false, not-true}
@@ -16,7 +16,6 @@ use Rattle.answer.specs.Report.{Report}
 use Rattle.answer.proofs.Outcome.{refused≢accepted, accepted_same, passed}
 use Rattle.field.specs.Half.{half}
 use Rattle.field.proofs.Tests.{both}
-use Rattle.digits.specs.Number.{base}
 use Rattle.circuit.specs.Depth.{depths, depth}
 use Rattle.circuit.specs.Meaning.{entry_at}
 use Rattle.circuit.specs.Report.{report}

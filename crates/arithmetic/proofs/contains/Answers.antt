@@ -1,4 +1,4 @@
-use Rattle.std.proofs.Common.{◌≡◌, ℕ, ◌+◌, ◌≤◌, ◌<◌, Bool, true, false, ◌||◌, List, length, drop, get_or, drop-cons, eq-eqb, ne_eqb, add-one, arith}
+use Rattle.std.proofs.Common.{◌≡◌, ℕ, ◌+◌, ◌≤◌, ◌<◌, Bool, true, false, ◌||◌, List, length, drop, get_or, drop-cons, eq-eqb, ne_eqb, add-one}
 use lib.Dec.{eqb}
 use lib.ListN.{drop_of_length-le}
 use Rattle.field.specs.Member.{member}
@@ -30,8 +30,8 @@ loop-place-preserved c =
     let l = c.loop-place in
     let inside = c.loop-place-test.true in
     elim c.if-list-place.branch [
-      then-list-place w ↦ rw w.found-is (here _ _ l.place inside l.found l.invariant w.if-list-place.true)
-    | else-list-place w ↦ rw w.found-is (passed _ _ l.place inside l.found l.invariant w.if-list-place.false)
+      | then-list-place w ↦ rw w.found-is (here _ _ l.place inside l.found l.invariant w.if-list-place.true)
+      | else-list-place w ↦ rw w.found-is (passed _ _ l.place inside l.found l.invariant w.if-list-place.false)
     ]
 
 pub returns : goal.returns
