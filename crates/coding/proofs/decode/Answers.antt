@@ -1,6 +1,5 @@
 use mathlib.Core.Path.{◌≡◌, sym, ◌∙◌}
 use mathlib.Core.Bool.{true}
-use borrow.Author.Tests.{not-false}
 use Rattle.field.specs.Primes.{listed}
 use Rattle.digits.proofs.Number.{base_pos}
 use Rattle.coding.proofs.decode.Goals as goal

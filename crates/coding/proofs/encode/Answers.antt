@@ -1,7 +1,6 @@
 use mathlib.Core.Path.{◌≡◌, sym, ◌∙◌}
-use mathlib.Core.Bool.{true, false}
+use mathlib.Core.Bool.{true}
 use native.Mathlib.Omega.{arith}
-use borrow.Author.Tests.{not-false}
 use Rattle.field.specs.Primes.{listed}
 use Rattle.digits.proofs.Number.{base_pos}
 use Rattle.coding.proofs.encode.Goals as goal

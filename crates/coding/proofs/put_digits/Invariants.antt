@@ -13,7 +13,7 @@ abbrev planned : ℕ → ℕ → List ℕ → ℕ → ℕ → List ℕ
 planned base n out rest i = take i out ++ (digits_of base (n - i) rest ++ drop n out)
 
 abbrev pub invariant-loop-i : goal.invariant-loop-i
-invariant-loop-i l =     (l.i ≤ l.n) × (length l.out ≡ length l.initial.out) × (planned l.base l.n l.out l.rest l.i ≡ digits_of l.base l.n l.x ++ drop l.n l.initial.out)
+invariant-loop-i l = (l.i ≤ l.n) × (length l.out ≡ length l.initial.out) × (planned l.base l.n l.out l.rest l.i ≡ digits_of l.base l.n l.x ++ drop l.n l.initial.out)
 
 abbrev pub decreases-loop-i : goal.decreases-loop-i
 decreases-loop-i l = l.n - l.i

@@ -8,7 +8,7 @@ use Rattle.digits.specs.Number.{number}
 use Rattle.coding.proofs.total.Given as goal
 
 abbrev pub invariant-loop-i : goal.invariant-loop-i
-invariant-loop-i l =     (l.i ≤ length l.digits) × (l.sum ≡ number l.base (drop l.i l.digits)) × (l.sum ≤ 2 ^ 64 - 1)
+invariant-loop-i l = (l.i ≤ length l.digits) × (l.sum ≡ number l.base (drop l.i l.digits)) × (l.sum ≤ 2 ^ 64 - 1)
 
 abbrev pub decreases-loop-i : goal.decreases-loop-i
 decreases-loop-i l = l.i

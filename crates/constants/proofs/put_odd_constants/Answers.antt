@@ -14,12 +14,11 @@ pub sum_of-requires : goal.sum_of-requires
 sum_of-requires c = let l = c.loop-m in omega (arith, length_powers _ _ _ _ _ l.invariant)
 
 pub multiply_each-requires : goal.multiply_each-requires
-multiply_each-requires c =
-    (
-      length_powers _ _ _ _ _ c.loop-m.invariant ∙ sym (ap length c.requires.3 ∙ length_first _ _),
-      c.requires.0,
-      c.reciprocal_of-reciprocal.ensures,
-    )
+multiply_each-requires c = (
+  length_powers _ _ _ _ _ c.loop-m.invariant ∙ sym (ap length c.requires.3 ∙ length_first _ _),
+  c.requires.0,
+  c.reciprocal_of-reciprocal.ensures,
+)
 
 pub loop-m-preserved : goal.loop-m-preserved
 loop-m-preserved c =

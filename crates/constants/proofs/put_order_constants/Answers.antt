@@ -8,16 +8,15 @@ use Rattle.constants.proofs.Constants.{filled_part_is, counting_powers, constant
 use Rattle.constants.proofs.put_order_constants.Goals as goal
 
 pub put_odd_constants-requires : goal.put_odd_constants-requires
-put_odd_constants-requires c =
-    (
-      omega arith,
-      c.requires.1,
-      filled_part_is _ _ _ _ (omega arith) c.put_ascending.ensures
-          ∙ counting_powers c.args.p _ (omega arith)
-          ∙ ap (powers_mod c.args.p 1) c.wide-half.ensures.0,
-      filled_part_is _ _ _ _ (omega arith) c.put_squares.ensures ∙ ap (powers_mod c.args.p 2) c.wide-half.ensures.0,
-      rw length-set (omega arith),
-    )
+put_odd_constants-requires c = (
+  omega arith,
+  c.requires.1,
+  filled_part_is _ _ _ _ (omega arith) c.put_ascending.ensures
+      ∙ counting_powers c.args.p _ (omega arith)
+      ∙ ap (powers_mod c.args.p 1) c.wide-half.ensures.0,
+  filled_part_is _ _ _ _ (omega arith) c.put_squares.ensures ∙ ap (powers_mod c.args.p 2) c.wide-half.ensures.0,
+  rw length-set (omega arith),
+)
 
 pub returns : goal.returns
 returns c =

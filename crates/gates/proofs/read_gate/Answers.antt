@@ -21,7 +21,7 @@ returns-in-Kind c =
     let number : ℕ = length c.args.earlier.now in
     let by-verdict : (verdict : Verdict) → c.verdict_of.result ≡ verdict
     → read_gate (head) (number) (bytes)
-    ≡ on_answer (verdict_answer verdict) refused (λ kind. read_fields (head) (number) kind (u16_at (bytes) 4) (u16_at (bytes) 6)) = λ verdict e.     let word = c.word_at.ensures in
+    ≡ on_answer (verdict_answer verdict) refused (λ kind. read_fields (head) (number) kind (u16_at (bytes) 4) (u16_at (bytes) 6)) = λ verdict e. let word = c.word_at.ensures in
     let told : verdict_answer verdict ≡ word_verdict (word_at (bytes))
     = sym (ap verdict_answer e) ∙ c.verdict_of.ensures ∙ ap word_verdict word.0 in
     rw told (record_by_word (head) (number) (bytes) word.1) in
@@ -36,7 +36,7 @@ returns-in-Refused c =
     let number : ℕ = length c.args.earlier.now in
     let by-verdict : (verdict : Verdict) → c.verdict_of.result ≡ verdict
     → read_gate (head) (number) (bytes)
-    ≡ on_answer (verdict_answer verdict) refused (λ kind. read_fields (head) (number) kind (u16_at (bytes) 4) (u16_at (bytes) 6)) = λ verdict e.     let word = c.word_at.ensures in
+    ≡ on_answer (verdict_answer verdict) refused (λ kind. read_fields (head) (number) kind (u16_at (bytes) 4) (u16_at (bytes) 6)) = λ verdict e. let word = c.word_at.ensures in
     let told : verdict_answer verdict ≡ word_verdict (word_at (bytes))
     = sym (ap verdict_answer e) ∙ c.verdict_of.ensures ∙ ap word_verdict word.0 in
     rw told (record_by_word (head) (number) (bytes) word.1) in

@@ -1,7 +1,7 @@
 use mathlib.Core.Path.{sym, ap, ◌∙◌}
-use Prim.Native.Nat.{◌+◌, ◌-◌, ◌<◌}
+use Prim.Native.Nat.{◌<◌}
 use native.Mathlib.Omega.{arith}
-use lib.ListN.{set, length-set}
+use lib.ListN.{length-set}
 use Rattle.gates.specs.GateDepth.{gate_answer}
 use Rattle.reader.proofs.ReadGates.{finishes, refuses, adds}
 use Rattle.reader.proofs.read_gates.Goals as goal
