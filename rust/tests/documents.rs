@@ -41,7 +41,7 @@ fn is_name(span: &str) -> bool {
 
 /// A name's last letter is followed by none of its letters.
 fn ends(rest: &str) -> bool {
-    !rest.starts_with(|c: char| c.is_alphanumeric() || "_-′".contains(c))
+    !rest.starts_with(|c: char| c.is_alphanumeric() || "_-'".contains(c))
 }
 
 /// A definition, statement or law, in one line of antt.
@@ -133,7 +133,10 @@ fn assurance_has_its_files() {
         compare(&names, &spans(cells[0]));
         for file in proofs {
             assert!(
-                names.iter().any(|name| declares(file, &proof_of(name))),
+                names
+                    .iter()
+                    .flat_map(|name| proofs_of(name))
+                    .any(|proof| declares(file, &proof)),
                 "{file} proves none of {names:?}"
             );
         }
@@ -149,16 +152,17 @@ fn assurance_has_its_files() {
     }
 }
 
-/// `LikeThis` is proved as `like-this`.
-fn proof_of(statement: &str) -> String {
+/// `LikeThis` is proved as `like_this`, or as `like_this_lem` where a definition has that name.
+fn proofs_of(statement: &str) -> [String; 2] {
     let mut name = String::new();
     for (i, c) in statement.chars().enumerate() {
         if c.is_uppercase() && i > 0 {
-            name.push('-');
+            name.push('_');
         }
         name.extend(c.to_lowercase());
     }
-    name
+    let lemma = format!("{name}_lem");
+    [name, lemma]
 }
 
 /// All antt files below a folder.
@@ -202,11 +206,12 @@ fn statements_have_their_proofs_and_rows() {
         let specs = files_below(&folder.join("specs"));
         let proofs = files_below(&folder.join("proofs"));
         for statement in statements(&specs) {
-            let proof = format!("pub {} : {statement}", proof_of(statement));
+            let lines = proofs_of(statement).map(|name| format!("pub {name} : {statement}"));
             let is_proved = proofs
                 .iter()
-                .any(|text| text.lines().any(|line| line == proof));
-            assert!(is_proved, "{}: no line '{proof}'", folder.display());
+                .flat_map(|text| text.lines())
+                .any(|line| lines.iter().any(|proof| line == proof));
+            assert!(is_proved, "{}: no line of {lines:?}", folder.display());
             assert!(claimed.contains(statement), "{statement} has no row");
             count += 1;
         }

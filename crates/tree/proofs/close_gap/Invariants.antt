@@ -13,7 +13,7 @@ abbrev closed : List ℕ → ℕ → ℕ → List ℕ
 closed list count i = without i (take count list) ++ drop (count - 1) list
 
 abbrev pub invariant-loop-i : goal.invariant-loop-i
-invariant-loop-i l =     (l.i < l.count) × (length l.list ≡ length l.initial.list) × (closed l.list l.count l.i ≡ closed l.initial.list l.count l.place)
+invariant-loop-i l = (l.i < l.count) × (length l.list ≡ length l.initial.list) × (closed l.list l.count l.i ≡ closed l.initial.list l.count l.place)
 
 abbrev pub decreases-loop-i : goal.decreases-loop-i
 decreases-loop-i l = l.count - l.i
