@@ -8,7 +8,7 @@ use Rattle.powers.specs.Powers.{Deep}
 use Rattle.powers.proofs.put_odd_depths.Given as goal
 
 abbrev pub invariant-loop-i : goal.invariant-loop-i
-invariant-loop-i l =     (l.i % 2 ≡ 1) × (half l.p < l.i) × (l.i ≤ l.p) × (length l.depths ≡ length l.initial.depths) × Deep l.p l.depths (half l.p + (l.i / 2 - (half l.p + 1) / 2))
+invariant-loop-i l = (l.i % 2 ≡ 1) × (half l.p < l.i) × (l.i ≤ l.p) × (length l.depths ≡ length l.initial.depths) × Deep l.p l.depths (half l.p + (l.i / 2 - (half l.p + 1) / 2))
 
 abbrev pub decreases-loop-i : goal.decreases-loop-i
 decreases-loop-i l = l.p - l.i
