@@ -2,7 +2,6 @@
 -- Assumes nothing.
 use mathlib.Core.Path.{◌≡◌}
 use mathlib.Core.List.{[], ◌∷◌}
-use Prim.Native.Nat.{ℕ}
 use denote.Laws.{Is}
 use denote.Struct.Declared as declared
 use denote.Struct.Laws as laws

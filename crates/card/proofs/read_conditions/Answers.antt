@@ -9,11 +9,11 @@ pub overflow_add-slots : goal.overflow_add-slots
 overflow_add-slots c =
     let own = c.in-Read.condition in
     let after : AddsUp (form_is c.args.form) c.args.prime c.args.records.now c.args.count (c.loop-k.k + 1)
-            (record { slots = c.loop-k.slots + own.digits; weights = c.loop-k.weights + own.weight; left = max c.loop-k.left (own.left + own.digits) })
-            (read_sums (form_is c.args.form) c.args.prime c.args.count c.args.records.now) =
-        adds _ _ _ _ _ _ _ _ c.record_size-size.ensures c.loop-k-test.true c.loop-k.invariant
-        (record_is c.in-Read.condition) (sym (ap record_answer c.in-Read.is) ∙ c.read_record.ensures)
-        (omega arith) in
+    (record { slots = c.loop-k.slots + own.digits; weights = c.loop-k.weights + own.weight; left = max c.loop-k.left (own.left + own.digits) })
+    (read_sums (form_is c.args.form) c.args.prime c.args.count c.args.records.now) =
+    adds _ _ _ _ _ _ _ _ c.record_size-size.ensures c.loop-k-test.true c.loop-k.invariant
+    (record_is c.in-Read.condition) (sym (ap record_answer c.in-Read.is) ∙ c.read_record.ensures)
+    (omega arith) in
     let told = after in
     omega (arith, told.few, told.most, c.requires.0)
 
@@ -31,11 +31,11 @@ pub loop-k-preserved : goal.loop-k-preserved
 loop-k-preserved c =
     let own = c.in-Read.condition in
     let after : AddsUp (form_is c.args.form) c.args.prime c.args.records.now c.args.count (c.loop-k.k + 1)
-            (record { slots = c.loop-k.slots + own.digits; weights = c.loop-k.weights + own.weight; left = max c.loop-k.left (own.left + own.digits) })
-            (read_sums (form_is c.args.form) c.args.prime c.args.count c.args.records.now) =
-        adds _ _ _ _ _ _ _ _ c.record_size-size.ensures c.loop-k-test.true c.loop-k.invariant
-        (record_is c.in-Read.condition) (sym (ap record_answer c.in-Read.is) ∙ c.read_record.ensures)
-        (omega arith) in
+    (record { slots = c.loop-k.slots + own.digits; weights = c.loop-k.weights + own.weight; left = max c.loop-k.left (own.left + own.digits) })
+    (read_sums (form_is c.args.form) c.args.prime c.args.count c.args.records.now) =
+    adds _ _ _ _ _ _ _ _ c.record_size-size.ensures c.loop-k-test.true c.loop-k.invariant
+    (record_is c.in-Read.condition) (sym (ap record_answer c.in-Read.is) ∙ c.read_record.ensures)
+    (omega arith) in
     rw c.count_left-left.ensures (after)
 
 pub returns : goal.returns

@@ -7,7 +7,7 @@ use Rattle.card.proofs.Conditions.{AddsUp}
 use Rattle.card.proofs.read_conditions.Given as goal
 
 abbrev pub invariant-loop-k : goal.invariant-loop-k
-invariant-loop-k l =     AddsUp (form_is l.form) l.prime l.records l.count l.k (record { slots = l.slots; weights = l.weights; left = l.left }) (read_sums (form_is l.form) l.prime l.count l.records)
+invariant-loop-k l = AddsUp (form_is l.form) l.prime l.records l.count l.k (record { slots = l.slots; weights = l.weights; left = l.left }) (read_sums (form_is l.form) l.prime l.count l.records)
 
 abbrev pub decreases-loop-k : goal.decreases-loop-k
 decreases-loop-k l = l.count - l.k

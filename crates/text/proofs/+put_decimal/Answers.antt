@@ -21,13 +21,13 @@ put_decimal-last-requires t c =
 pub bounds-out-last : goal.bounds-out-last
 bounds-out-last t c =
     let room : Fits c.put_decimal-last.new.out c.put_decimal-last.result (digit 0 ∷ []) =
-        left c.put_decimal-last.ensures _ (rw (decimal_more c.args.n c.if-n-lt10.false) at c.requires) in
+    left c.put_decimal-last.ensures _ (rw (decimal_more c.args.n c.if-n-lt10.false) at c.requires) in
     omega (arith, room)
 
 pub overflow_add-result-2 : goal.overflow_add-result-2
 overflow_add-result-2 t c =
     let room : Fits c.put_decimal-last.new.out c.put_decimal-last.result (digit 0 ∷ []) =
-        left c.put_decimal-last.ensures _ (rw (decimal_more c.args.n c.if-n-lt10.false) at c.requires) in
+    left c.put_decimal-last.ensures _ (rw (decimal_more c.args.n c.if-n-lt10.false) at c.requires) in
     omega (arith, room)
 
 pub returns : goal.returns
