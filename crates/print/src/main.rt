@@ -7,7 +7,6 @@ ghost use Rattle.io.specs.Counts.{IsPrefixLen};
 ghost use Rattle.listing.specs.Listing.{listing};
 ghost use Rattle.listing.specs.Promises.{most_card};
 
-
 // The file descriptors of the standard input and output.
 const STDIN_FILENO: i32 = 0;
 

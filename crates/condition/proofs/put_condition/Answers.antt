@@ -30,11 +30,14 @@ put_order-order-requires c =
     let asked = c.requires.modulus in
     let room : Room a.table.now a.pen (length (order).gates) =
     omega (arith, size a.pen (flipped) (order) (whole) (ends-order), c.requires.room)
-    in record { provided = record {
+    in record {
+      provided = record {
         room = either_room a.p (tests_by a.p a.step) (lawful) (order_condition c.is_backward-backward.result a.slots) _ refl a.pen asked.2.0 a.table.now room;
         modulus = asked.0;
         prepared = c.requires.prepared (sym c.is_order.ensures ∙ c.if-is_order.true);
-      }; suits = (asked.1, asked.2) }
+      };
+      suits = (asked.1, asked.2);
+    }
 
 pub put_ending-requires : goal.put_ending-requires
 put_ending-requires c =

@@ -22,11 +22,14 @@ pub put_end-requires : goal.put_end-requires
 put_end-requires c =
     let was_read : ReadAs c.args.card.now c.args.head = read_so c.requires in
     let few = as_many c.args.card.now c.args.head (was_read) in
-    let e = c.put_conditions-pen.ensures in record { endable = record {
+    let e = c.put_conditions-pen.ensures in record {
+      endable = record {
         reads = was_read;
         room = omega (arith, room_said c.requires, e.moves, c, c);
         outputs = (omega (arith, few, c), omega (arith, c));
-      }; shallow = shallow_said c.requires e.outputs refl }
+      };
+      shallow = shallow_said c.requires e.outputs refl;
+    }
 
 -- what the conditions and the end wrote over the head is the card's table
 pub returns : goal.returns

@@ -25,8 +25,11 @@ join_digits-requires c =
     let modulus = c.requires.provided.modulus in
     let deep = by_depths a.p a.step modulus.0 c.requires.suits.0.low in
     let top = (clog_is_ceiling (a.p - 1) 8).0 (omega (arith, modulus)) in
-    let whole = segment_is (tests_by a.p a.step) d a.pen.next wide.0 e.fills c.put_order_digits-last.result.next e.moves.0 in record { joinable = listed_joinable (tests_by a.p a.step) d a.pen.next wide.0 e.fills (omega (arith, wide)) (omega (arith, deep, top)) (omega (arith, deep, top))
-          (omega (arith, wide, c)); room = omega (arith, simp length-append at (ap length whole.0), c.requires.provided.room, e.moves, c) }
+    let whole = segment_is (tests_by a.p a.step) d a.pen.next wide.0 e.fills c.put_order_digits-last.result.next e.moves.0 in record {
+      joinable = listed_joinable (tests_by a.p a.step) d a.pen.next wide.0 e.fills (omega (arith, wide)) (omega (arith, deep, top)) (omega (arith, deep, top))
+          (omega (arith, wide, c));
+      room = omega (arith, simp length-append at (ap length whole.0), c.requires.provided.room, e.moves, c);
+    }
 
 pub returns : goal.returns
 returns c =

@@ -24,4 +24,4 @@ invariant-loop-j l =
     × (length l.equal_depths ≡ length l.initial.equal_depths))
 
 abbrev pub decreases-loop-j : goal.decreases-loop-j
-decreases-loop-j l =     l.slots.count - l.j
+decreases-loop-j l = l.slots.count - l.j

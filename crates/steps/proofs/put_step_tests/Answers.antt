@@ -48,6 +48,11 @@ returns c =
     let wrote = tests_wrote p a.step odd is a.k a.pen.next here a.j l.wrote (same_gates (ap (unless_lowest a.j) (equal)) e.wrote) in
     let count = less_size_here p a.step odd is a.k a.pen.next here in
     let chain = zero_chain (bits (p - 1)) c.put_step_less-summed.result.pen.next (a.k + 2) in
-    let many = chain_size (p - 1) c.put_step_less-summed.result.pen.next (a.k + 2) (omega (arith, odd)) in record { wrote = wrote; moves = (wrote.number, e.moves.1, e.moves.2); less = node_same (omega (arith, l, count, here)) l.output.1; equal = λ upper.
-              let all = ap length (upper_all a.j chain upper) in
-              node_same (omega (arith, l, count, here, e.moves, (e.output upper).0, all, many)) (e.output upper).1 }
+    let many = chain_size (p - 1) c.put_step_less-summed.result.pen.next (a.k + 2) (omega (arith, odd)) in record {
+      wrote = wrote;
+      moves = (wrote.number, e.moves.1, e.moves.2);
+      less = node_same (omega (arith, l, count, here)) l.output.1;
+      equal = λ upper.
+          let all = ap length (upper_all a.j chain upper) in
+          node_same (omega (arith, l, count, here, e.moves, (e.output upper).0, all, many)) (e.output upper).1;
+    }
