@@ -1,0 +1,23 @@
+use native.Mathlib.Omega.{arith}
+use Rattle.records.proofs.Records.{lent_long}
+use Rattle.listing.specs.Records.{record_lines}
+use Rattle.text.proofs.Putting.{nothing, same_text, then, left}
+use Rattle.listing.proofs.Records.{lines_more, lines_room}
+use Rattle.listing.proofs.put_gate_lines.Goals as goal
+
+pub loop-k-init : goal.loop-k-init
+unfolding record_lines
+loop-k-init c = (omega arith, nothing)
+
+pub put_gate_line-end-requires : goal.put_gate_line-end-requires
+put_gate_line-end-requires c =
+    let a = c.args in
+    let less = c.loop-k-test.true in (
+      lent_long a.table.now a.count c.loop-k.k c.requires.0 less,
+      left c.loop-k.invariant.1 _ (lines_room a.out.now a.at a.table.now a.count c.loop-k.k less c.requires.1),
+    )
+
+pub loop-k-preserved : goal.loop-k-preserved
+loop-k-preserved c =
+    let table = c.args.table.now in
+    (omega arith, same_text (lines_more table c.loop-k.k) (then c.loop-k.invariant.1 c.put_gate_line-end.ensures))

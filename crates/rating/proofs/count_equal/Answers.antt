@@ -1,0 +1,20 @@
+use Prim.Native.Nat.{ℕ, ◌-◌, ◌≤◌}
+use native.Mathlib.Omega.{arith}
+use Rattle.comparison.specs.Tests.{equality_test}
+use Rattle.comparison.proofs.Bits.{ones_below, flog_below}
+use Rattle.writer.specs.Modulus.{Modulus}
+use Rattle.rating.proofs.count_equal.Goals as goal
+
+-- the chain is short
+few : (p : ℕ) → Modulus p → (equality_test p).count ≤ p
+few p odd = omega (arith, odd, ones_below (p - 1) (omega (arith, odd)) (omega (arith, odd)), flog_below (p - 1) (omega (arith, odd)))
+
+pub put_zero_test-written-requires : goal.put_zero_test-written-requires
+put_zero_test-written-requires c =
+    let f = few c.args.p c.requires.1 in
+    ((omega (arith, f, c.requires), omega (arith, f, c.requires), omega arith, omega arith), c.requires.1)
+
+pub returns : goal.returns
+returns c =
+    let moved = c.put_zero_test-written.ensures.moves.0 in
+    (omega (arith, moved), omega (arith, moved, few c.args.p c.requires.1))
