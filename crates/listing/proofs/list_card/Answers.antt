@@ -1,12 +1,16 @@
+-- With room for every table, a report is that of the card's table, whose records are put after its line, and a refusal is the card's.
+-- No listing is too long for the text.
 use mathlib.Core.Path.{◌≡◌, sym, ap, subst, ◌∙◌}
 use mathlib.Core.List.{List, ◌++◌}
 use Prim.Native.Nat.{ℕ, ◌+◌, ◌*◌, ◌≤◌}
 use native.Mathlib.Omega.{arith}
 use lib.ListN.{length, drop}
 use lib.Seq.{sets}
+use Rattle.answer.specs.Outcome.{Answer, refused, accepted}
 use Rattle.answer.specs.Report as answer
 use Rattle.answer.specs.Report.{report_answer, report_of}
 use Rattle.circuit.specs.Table.{most_gates}
+use Rattle.query.specs.Outcomes.{building}
 use Rattle.listing.specs.Lines.{summary_line, refusal_line}
 use Rattle.listing.specs.Listing.{listing}
 use Rattle.listing.specs.Promises.{most_listing}
@@ -21,74 +25,54 @@ use Rattle.listing.proofs.list_card.Goals as goal
 fits : (card out text : List ℕ) → most_listing ≤ length out → listing card ≡ text → Fits out 0 text
 fits card out text room same = omega (arith, short_listing card, ap length same)
 
--- a report was answered, and the text is lent
-module _ (c : tie.After-put-summary-arg) where
-  abbrev built : tie.After-build
-  built = c.before.before.before.before
-
-  abbrev counts : answer.Report
-  counts = report_of c.before.before.told.given.0.0
-
-  abbrev table : List ℕ
-  table = built.build.last.1.0
-
-  listed : Listed (start built).args.card.now table counts
-  listed =
-      let a = (start built).args in
-      let b = built.build in
-      subst (λ (t : List ℕ). Listed a.card.now t counts) (sym b.ensures.1)
-      (lists_table a.card.now a.table.now (room built) counts (sym (ap report_answer c.before.before.told.given.1) ∙ b.ensures.0))
-
-  abbrev text : List ℕ
-  text = summary_line counts ++ record_lines 0 counts.gates (drop 8 table)
-
-  text-fits : Fits (start built).args.text.now 0 text
-  text-fits = fits (start built).args.card.now (start built).args.text.now text (omega arith) listed.1
-
--- Build was called
-module _ (c : tie.After-build) where
-  abbrev start : tie.Start
-  start = c.before.before.before
-
-  room : 8 * (most_gates + 1) ≤ length start.args.table.now
-  room = omega arith
-
--- a refusal was answered, and the text is lent
-module _ (c : tie.After-refusal-number) where
-  abbrev refused : tie.After-build
-  refused = c.before.before.before.before.before
-
-  refusal : listing (start refused).args.card.now ≡ refusal_line c.refusal_number.result
-  refusal =
-      let a = (start refused).args in
-      let b = refused.build in
-      lists_refusal a.card.now a.table.now (room refused) _ (sym (ap report_answer c.before.before.before.why.given.1) ∙ b.ensures.0)
-      ∙ ap refusal_line (sym c.refusal_number.ensures)
-
-  line-fits : Fits (start refused).args.text.now 0 (refusal_line c.refusal_number.result)
-  line-fits = fits (start refused).args.card.now (start refused).args.text.now _ (omega arith) refusal
-
 -- what the contract says of a listing that was put where it has room
 returned : (card : List ℕ) {out out' text : List ℕ} {end : ℕ} → listing card ≡ text → Fits out 0 text → Puts out 0 text out' end
     → (out' ≡ sets out 0 (listing card)) × (end ≡ length (listing card)) × (end ≤ length out')
 returned card same room put =
     let whole = same_text (sym same) put in (whole.bytes, omega (arith, whole.after), omega (arith, put.after, same_size put))
 
+-- a report was answered, and left is what Build left
+listed : (card table left : List ℕ) (told : answer.Report) → 8 * (most_gates + 1) ≤ length table → left ≡ (building card table).lent
+    → accepted told ≡ (building card table).answer → Listed card left told
+listed card table left told room leaves answers = subst (λ (t : List ℕ). Listed card t told) (sym leaves) (lists_table card table room told answers)
+
 pub put_summary-at-requires : goal.put_summary-at-requires
-put_summary-at-requires c = begins (start (built c)).args.text.now 0 (summary_line (counts c)) _ (text-fits c)
+put_summary-at-requires c =
+    let a = c.args in
+    let b = c.build.ensures in
+    let told = report_of c.in-Success.told in
+    let list = listed a.card.now a.table.now c.build.new.table told (omega arith) b.leaves (sym (ap report_answer c.in-Success.is) ∙ b.answers) in
+    begins a.text.now 0 (summary_line told) _ (fits a.card.now a.text.now _ (omega arith) list.1)
 
 pub put_gate_lines-requires : goal.put_gate_lines-requires
 put_gate_lines-requires c =
-    ((listed c).0, left c.put_summary-at.ensures _ (text-fits c))
-
-pub put_refusal-requires : goal.put_refusal-requires
-put_refusal-requires c = line-fits c
+    let a = c.args in
+    let b = c.build.ensures in
+    let told = report_of c.in-Success.told in
+    let list = listed a.card.now a.table.now c.build.new.table told (omega arith) b.leaves (sym (ap report_answer c.in-Success.is) ∙ b.answers) in
+    (list.0, left c.put_summary-at.ensures _ (fits a.card.now a.text.now _ (omega arith) list.1))
 
 pub returns-in-Success : goal.returns-in-Success
 returns-in-Success c =
+    let a = c.args in
+    let b = c.build.ensures in
+    let told = report_of c.in-Success.told in
+    let list = listed a.card.now a.table.now c.build.new.table told (omega arith) b.leaves (sym (ap report_answer c.in-Success.is) ∙ b.answers) in
     let put = then c.put_summary-at.ensures c.put_gate_lines.ensures in
-    let e = returned (start (built c)).args.card.now (listed c).1 (text-fits c) put in record { puts = e.0; ends = e.1; fits = e.2; leaves = (built c).build.ensures.1 }
+    let e = returned a.card.now list.1 (fits a.card.now a.text.now _ (omega arith) list.1) put in
+    record { puts = e.0; ends = e.1; fits = e.2; leaves = b.leaves }
+
+pub put_refusal-requires : goal.put_refusal-requires
+put_refusal-requires c =
+    let a = c.args in
+    let refusal = lists_refusal a.card.now a.table.now (omega arith) _ (sym (ap report_answer c.in-Refused.is) ∙ c.build.ensures.answers)
+            ∙ ap refusal_line (sym c.refusal_number.ensures) in
+    fits a.card.now a.text.now _ (omega arith) refusal
 
 pub returns-in-Refused : goal.returns-in-Refused
 returns-in-Refused c =
-    let e = returned (start (refused c)).args.card.now (refusal c) (line-fits c) c.put_refusal.ensures in record { puts = e.0; ends = e.1; fits = e.2; leaves = (refused c).build.ensures.1 }
+    let a = c.args in
+    let refusal = lists_refusal a.card.now a.table.now (omega arith) _ (sym (ap report_answer c.in-Refused.is) ∙ c.build.ensures.answers)
+            ∙ ap refusal_line (sym c.refusal_number.ensures) in
+    let e = returned a.card.now refusal (fits a.card.now a.text.now _ (omega arith) refusal) c.put_refusal.ensures in
+    record { puts = e.0; ends = e.1; fits = e.2; leaves = c.build.ensures.leaves }
