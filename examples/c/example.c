@@ -2,7 +2,7 @@
  *
  * Build it with the static library, from the top of the repository:
  *
- *     rt staticlib staplethread
+ *     tools/build
  *     gcc -std=c99 -Wall -Wextra -Wpedantic -Iinclude examples/c/example.c \
  *         -Ltarget/staticlib -lstaplethread -o target/example
  */
