@@ -18,7 +18,6 @@ use Rattle.digits.specs.Number.{most_digits}
 use Rattle.circuit.specs.Segment.{Node}
 use Rattle.circuit.specs.Table.{least_weight, most_weight, wrong_weight}
 use Rattle.query.specs.Card.{most_conditions}
-use Rattle.filling.specs.State.{BuildState}
 use Rattle.filling.proofs.Filled.{opened}
 use Rattle.filling.proofs.Promises.{stays_open}
 use Rattle.tree.specs.Factors.{nodes}

@@ -5,7 +5,6 @@ use mathlib.Core.Path.{◌≡◌}
 use Prim.Native.Nat.{◌+◌, ◌-◌, ◌≤◌}
 use lib.ListN.{length}
 use Rattle.answer.specs.Outcome.{accepted}
-use Rattle.field.specs.Half.{half}
 use Rattle.query.specs.Card.{Card}
 use Rattle.query.specs.Reading.{read_card}
 use Rattle.offer.specs.Offer.{best_step}

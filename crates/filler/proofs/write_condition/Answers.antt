@@ -30,8 +30,12 @@ put_condition-written-requires c =
     let d = c.requires.addable in
     let o = known in
     let from = c.pen_of.result in
-    let size = own_size d from.next in record { room = open_room (state) from (length (condition_segment c.args.state.prime (condition) from.next).gates) c.put_head.new.table d.takes.is_open
-          c.pen_of.ensures (omega (arith, c, d.room, size)) (omega (arith, few_gates d, size)); modulus = ((o.prime.low, o.prime.odd, omega (arith, o.prime.high)), record { low = zero-le }, (d.takes.digits.0, d.slots, d.slots)); prepared = c.prepare_for.ensures }
+    let size = own_size d from.next in record {
+      room = open_room (state) from (length (condition_segment c.args.state.prime (condition) from.next).gates) c.put_head.new.table d.takes.is_open
+          c.pen_of.ensures (omega (arith, c, d.room, size)) (omega (arith, few_gates d, size));
+      modulus = ((o.prime.low, o.prime.odd, omega (arith, o.prime.high)), record { low = zero-le }, (d.takes.digits.0, d.slots, d.slots));
+      prepared = c.prepare_for.ensures;
+    }
 
 pub with_condition-requires : goal.with_condition-requires
 with_condition-requires c =

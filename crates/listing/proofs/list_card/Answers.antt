@@ -1,12 +1,12 @@
 -- With room for every table, a report is that of the card's table, whose records are put after its line, and a refusal is the card's.
 -- No listing is too long for the text.
 use mathlib.Core.Path.{◌≡◌, sym, ap, subst, ◌∙◌}
-use mathlib.Core.List.{List, ◌++◌}
+use mathlib.Core.List.{List}
 use Prim.Native.Nat.{ℕ, ◌+◌, ◌*◌, ◌≤◌}
 use native.Mathlib.Omega.{arith}
-use lib.ListN.{length, drop}
+use lib.ListN.{length}
 use lib.Seq.{sets}
-use Rattle.answer.specs.Outcome.{Answer, refused, accepted}
+use Rattle.answer.specs.Outcome.{accepted}
 use Rattle.answer.specs.Report as answer
 use Rattle.answer.specs.Report.{report_answer, report_of}
 use Rattle.circuit.specs.Table.{most_gates}
@@ -15,7 +15,6 @@ use Rattle.listing.specs.Lines.{summary_line, refusal_line}
 use Rattle.listing.specs.Listing.{listing}
 use Rattle.listing.specs.Promises.{most_listing}
 use Rattle.text.specs.Putting.{Puts, Fits}
-use Rattle.listing.specs.Records.{record_lines}
 use Rattle.listing.proofs.Building.{Listed, lists_table, lists_refusal}
 use Rattle.listing.proofs.Lengths.{short_listing}
 use Rattle.text.proofs.Putting.{same_text, same_size, then, left, begins}
@@ -66,13 +65,13 @@ pub put_refusal-requires : goal.put_refusal-requires
 put_refusal-requires c =
     let a = c.args in
     let refusal = lists_refusal a.card.now a.table.now (omega arith) _ (sym (ap report_answer c.in-Refused.is) ∙ c.build.ensures.answers)
-            ∙ ap refusal_line (sym c.refusal_number.ensures) in
+    ∙ ap refusal_line (sym c.refusal_number.ensures) in
     fits a.card.now a.text.now _ (omega arith) refusal
 
 pub returns-in-Refused : goal.returns-in-Refused
 returns-in-Refused c =
     let a = c.args in
     let refusal = lists_refusal a.card.now a.table.now (omega arith) _ (sym (ap report_answer c.in-Refused.is) ∙ c.build.ensures.answers)
-            ∙ ap refusal_line (sym c.refusal_number.ensures) in
+    ∙ ap refusal_line (sym c.refusal_number.ensures) in
     let e = returned a.card.now refusal (fits a.card.now a.text.now _ (omega arith) refusal) c.put_refusal.ensures in
     record { puts = e.0; ends = e.1; fits = e.2; leaves = c.build.ensures.leaves }

@@ -8,7 +8,7 @@ use Rattle.rating.proofs.Counting.{CountsDigits}
 use Rattle.rating.proofs.count_digits.Given as goal
 
 abbrev pub invariant-loop-k : goal.invariant-loop-k
-invariant-loop-k l =     CountsDigits (conditions_of l.card) l.k l.all l.higher × Taken (conditions_of l.card) l.k l.slot × (l.all ≤ l.slot) × (l.higher ≤ l.all) × (l.slot ≤ most_digits)
+invariant-loop-k l = CountsDigits (conditions_of l.card) l.k l.all l.higher × Taken (conditions_of l.card) l.k l.slot × (l.all ≤ l.slot) × (l.higher ≤ l.all) × (l.slot ≤ most_digits)
 
 abbrev pub decreases-loop-k : goal.decreases-loop-k
 decreases-loop-k l = l.count - l.k

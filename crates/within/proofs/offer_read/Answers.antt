@@ -6,10 +6,13 @@ use Rattle.within.proofs.offer_read.Goals as goal
 
 pub both_tables-requires : goal.both_tables-requires
 both_tables-requires c =
-    let a = c.args in record { read_as = (c.requires, c.prepare_order.ensures, c.forecast_read-base.ensures); step = (
+    let a = c.args in record {
+      read_as = (c.requires, c.prepare_order.ensures, c.forecast_read-base.ensures);
+      step = (
         chosen_step a.card.now a.cap.0 a.head _ _ c.requires c.in-Chosen.is c.best_step.ensures,
         chosen_known a.card.now a.cap.0 _ _ c.in-Chosen.is c.best_step.ensures,
-      ) }
+      );
+    }
 
 pub returns-in-Chosen : goal.returns-in-Chosen
 returns-in-Chosen c =
