@@ -6,7 +6,7 @@ use lib.ListN.{length}
 use Rattle.cases.proofs.carry_out_lines.Given as goal
 
 abbrev pub invariant-loop-start : goal.invariant-loop-start
-invariant-loop-start l =     (length l.table ≡ length l.initial.table) × (length l.second ≡ length l.initial.second) × (length l.work ≡ length l.initial.work) × (length l.uses ≡ length l.initial.uses) × (length l.digits ≡ length l.initial.digits) × (length l.out ≡ length l.initial.out)
+invariant-loop-start l = (length l.table ≡ length l.initial.table) × (length l.second ≡ length l.initial.second) × (length l.work ≡ length l.initial.work) × (length l.uses ≡ length l.initial.uses) × (length l.digits ≡ length l.initial.digits) × (length l.out ≡ length l.initial.out)
 
 abbrev pub decreases-loop-start : goal.decreases-loop-start
 decreases-loop-start l = suc (length l.script) - l.start

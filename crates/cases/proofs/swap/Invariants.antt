@@ -6,7 +6,7 @@ use lib.ListN.{length}
 use Rattle.cases.proofs.swap.Given as goal
 
 abbrev pub invariant-loop-i : goal.invariant-loop-i
-invariant-loop-i l =     (l.i ≤ l.end) × (l.end ≤ length l.initial.table) × (l.end ≤ length l.initial.second) × (length l.table ≡ length l.initial.table) × (length l.second ≡ length l.initial.second)
+invariant-loop-i l = (l.i ≤ l.end) × (l.end ≤ length l.initial.table) × (l.end ≤ length l.initial.second) × (length l.table ≡ length l.initial.table) × (length l.second ≡ length l.initial.second)
 
 abbrev pub decreases-loop-i : goal.decreases-loop-i
 decreases-loop-i l = l.end - l.i
