@@ -118,7 +118,8 @@ pub fn finish(state: BuildState, table: &mut [u8]) -> Finished
         return refuse_finish(state, Refusal::NoOpenBuild);
     }
     let count = arithmetic::wide(state.count);
-    if count == 0 {
+    let is_empty = count == 0;
+    if is_empty {
         return refuse_finish(state, Refusal::NoOpenBuild);
     }
     if table.len() < RECORD * (state.gates as usize + count) {
@@ -226,7 +227,8 @@ pub fn add(state: BuildState, bytes: &[u8], table: &mut [u8]) -> Stepped
     if state::is_closed(state) {
         return refuse_step(state, Refusal::NoOpenBuild);
     }
-    if card::MOST_CONDITIONS <= arithmetic::wide(state.count) {
+    let is_full = card::MOST_CONDITIONS <= arithmetic::wide(state.count);
+    if is_full {
         return refuse_step(state, Refusal::TooManyConditions);
     }
     if bytes.len() != card::PLAIN_SIZE {

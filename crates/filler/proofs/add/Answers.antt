@@ -17,20 +17,20 @@ use Rattle.filler.proofs.Adding.{add_ninth, add_length, add_refused, add_read, r
 use Rattle.filler.proofs.Steps.{refused_step, same_step}
 use Rattle.filler.proofs.add.Goals as goal
 
-pub returns-then-wide-ge-MOST_CONDITIONS : goal.returns-then-wide-ge-MOST_CONDITIONS
-returns-then-wide-ge-MOST_CONDITIONS c =
+pub returns-then-is_full : goal.returns-then-is_full
+returns-then-is_full c =
     let state : BuildState = state_is c.args.state in
     let is_open : is_closed (state) ≡ false = sym c.is_closed.ensures ∙ c.if-is_closed.false in
     let counted : length (state).outputs ≡ c.args.state.count = outputs_open c.args.state c.well_formed.0 (is_open) in
-    let whole = refused_step c.args.state _ _ 30 c.args.table.now (adding (state) c.args.bytes.now c.args.table.now) c.refuse_step-then-wide-ge-MOST_CONDITIONS.ensures
-    (add_ninth (state) c.args.bytes.now c.args.table.now (is_open) (omega (arith, c.if-wide-ge-MOST_CONDITIONS.true, c.wide.ensures.0, counted))) in record { answers = whole.0; next = whole.1.0; leaves = whole.1.1 }
+    let whole = refused_step c.args.state _ _ 30 c.args.table.now (adding (state) c.args.bytes.now c.args.table.now) c.refuse_step-then-is_full.ensures
+    (add_ninth (state) c.args.bytes.now c.args.table.now (is_open) (omega (arith, c.if-is_full.true, c.wide-is_full.ensures.0, counted))) in record { answers = whole.0; next = whole.1.0; leaves = whole.1.1 }
 
 pub returns-then-bytes-ne-PLAIN_SIZE : goal.returns-then-bytes-ne-PLAIN_SIZE
 returns-then-bytes-ne-PLAIN_SIZE c =
     let state : BuildState = state_is c.args.state in
     let is_open : is_closed (state) ≡ false = sym c.is_closed.ensures ∙ c.if-is_closed.false in
     let counted : length (state).outputs ≡ c.args.state.count = outputs_open c.args.state c.well_formed.0 (is_open) in
-    let few : length (state).outputs < most_conditions = omega (arith, c.if-wide-ge-MOST_CONDITIONS.false, c.wide.ensures.0, counted) in
+    let few : length (state).outputs < most_conditions = omega (arith, c.if-is_full.false, c.wide-is_full.ensures.0, counted) in
     let whole = refused_step c.args.state _ _ 7 c.args.table.now (adding (state) c.args.bytes.now c.args.table.now) c.refuse_step-then-bytes-ne-PLAIN_SIZE.ensures
     (add_length (state) c.args.bytes.now c.args.table.now (is_open) (few) c.if-bytes-ne-PLAIN_SIZE.true) in record { answers = whole.0; next = whole.1.0; leaves = whole.1.1 }
 
@@ -42,7 +42,7 @@ add_condition-requires c =
     ) = sym c.read_record.ensures ∙ ap record_answer c.in-Read.is in
     let is_open : is_closed (state) ≡ false = sym c.is_closed.ensures ∙ c.if-is_closed.false in
     let counted : length (state).outputs ≡ c.args.state.count = outputs_open c.args.state c.well_formed.0 (is_open) in
-    let few : length (state).outputs < most_conditions = omega (arith, c.if-wide-ge-MOST_CONDITIONS.false, c.wide.ensures.0, counted) in
+    let few : length (state).outputs < most_conditions = omega (arith, c.if-is_full.false, c.wide-is_full.ensures.0, counted) in
     let next = read_next (state) c.args.bytes.now _ (took) in
     record {
       is_open = is_open;
@@ -55,7 +55,7 @@ returns-in-Read c =
     let state : BuildState = state_is c.args.state in
     let is_open : is_closed (state) ≡ false = sym c.is_closed.ensures ∙ c.if-is_closed.false in
     let counted : length (state).outputs ≡ c.args.state.count = outputs_open c.args.state c.well_formed.0 (is_open) in
-    let few : length (state).outputs < most_conditions = omega (arith, c.if-wide-ge-MOST_CONDITIONS.false, c.wide.ensures.0, counted) in
+    let few : length (state).outputs < most_conditions = omega (arith, c.if-is_full.false, c.wide-is_full.ensures.0, counted) in
     let took : (
     read_condition Plain c.args.state.prime c.args.state.slots c.args.bytes.now ≡ accepted (record_is c.in-Read.condition)
     ) = sym c.read_record.ensures ∙ ap record_answer c.in-Read.is in
@@ -69,7 +69,7 @@ returns-in-Refused c =
     let state : BuildState = state_is c.args.state in
     let is_open : is_closed (state) ≡ false = sym c.is_closed.ensures ∙ c.if-is_closed.false in
     let counted : length (state).outputs ≡ c.args.state.count = outputs_open c.args.state c.well_formed.0 (is_open) in
-    let few : length (state).outputs < most_conditions = omega (arith, c.if-wide-ge-MOST_CONDITIONS.false, c.wide.ensures.0, counted) in
+    let few : length (state).outputs < most_conditions = omega (arith, c.if-is_full.false, c.wide-is_full.ensures.0, counted) in
     let broke : (
     read_condition Plain c.args.state.prime c.args.state.slots c.args.bytes.now ≡ refused (refusal_number c.in-Refused.why)
     ) = sym c.read_record.ensures ∙ ap record_answer c.in-Refused.is in
