@@ -1,10 +1,9 @@
 -- "Success answers G, products, squares, cost, depth" (document 01, "Operations and what they turn away").
-use Rattle.std.specs.Prelude.{ℕ, ◌+◌, ◌*◌}
-use Rattle.answer.specs.Numbers.{refusal_number}
-use Rattle.answer.specs.Outcome.{Answer, refused, accepted}
+use Rattle.std.specs.Prelude.{ℕ, ◌+◌, ◌*◌, Result}
+use Rattle.answer.specs.Outcome.{Answer}
+use Rattle.answer.specs.Settled.{answer_of}
 use Rattle.answer.specs.declared.Report as declared
-use Rattle.answer.specs.declared.Reported.{Reported}
-use Rattle.answer.specs.declared.Reported.TheVariants.{Success, Refused}
+use Rattle.answer.specs.declared.Refusal.{Refusal}
 
 pub record Report : Type 0 where
   pub gates : ℕ
@@ -27,7 +26,6 @@ report_of told = record {
   depth = told.depth.0;
 }
 
--- the refusal's number, or the five values, for each case of the enum
-abbrev pub report_answer : Reported → Answer Report
-report_answer (Success told) = accepted (report_of told)
-report_answer (Refused why) = refused (refusal_number why)
+-- the refusal's number, or the five values
+abbrev pub report_answer : Result declared.Report Refusal → Answer Report
+report_answer = answer_of report_of

@@ -7,7 +7,7 @@ ghost use Rattle.answer.specs.Report.{cost_of};
 
 // Why an operation turns its input away: one name for each number of document 01, "Operations and
 // what they turn away", and of document 02, E1, E4, E6, E7 and E8, in the order of the numbers.
-#[derive(Clone, Copy)]
+#[derive(Clone, Copy, Debug, PartialEq, Eq)]
 pub enum Refusal {
     CardTooShort,
     WrongMark,
@@ -43,74 +43,62 @@ pub enum Refusal {
 }
 
 // The number of a refusal.
-pub fn refusal_number(why: Refusal) -> u8
-    ensures { result ≡ refusal_number why }
-{
-    match why {
-        Refusal::CardTooShort => 1,
-        Refusal::WrongMark => 2,
-        Refusal::PrimeNotListed => 3,
-        Refusal::WeightOutOfRange => 4,
-        Refusal::SpareNotZero => 5,
-        Refusal::ConditionCount => 6,
-        Refusal::CardLength => 7,
-        Refusal::UnknownRelation => 8,
-        Refusal::DigitCount => 9,
-        Refusal::TooManyDigits => 10,
-        Refusal::TableBufferTooSmall => 11,
-        Refusal::TableHeadTooShort => 12,
-        Refusal::SlotCount => 13,
-        Refusal::GateCount => 14,
-        Refusal::TableTooShort => 15,
-        Refusal::UnknownKind => 16,
-        Refusal::WrongOperand => 17,
-        Refusal::ListLength => 18,
-        Refusal::ValueTooLarge => 19,
-        Refusal::WorkBufferTooSmall => 20,
-        Refusal::OutBufferTooSmall => 21,
-        Refusal::NumberTooLarge => 22,
-        Refusal::DigitTooLarge => 23,
-        Refusal::NumberTooWide => 24,
-        Refusal::ScoreWeight => 25,
-        Refusal::TotalWeight => 26,
-        Refusal::LastUseListTooShort => 27,
-        Refusal::LeftSlotsOutOfRange => 28,
-        Refusal::DepthAboveCap => 29,
-        Refusal::TooManyConditions => 30,
-        Refusal::NoOpenBuild => 31,
+impl From<Refusal> for u8 {
+    ghost from_gives = { λ why number. number ≡ refusal_number why };
+
+    fn from(why: Refusal) -> u8 {
+        match why {
+            Refusal::CardTooShort => 1,
+            Refusal::WrongMark => 2,
+            Refusal::PrimeNotListed => 3,
+            Refusal::WeightOutOfRange => 4,
+            Refusal::SpareNotZero => 5,
+            Refusal::ConditionCount => 6,
+            Refusal::CardLength => 7,
+            Refusal::UnknownRelation => 8,
+            Refusal::DigitCount => 9,
+            Refusal::TooManyDigits => 10,
+            Refusal::TableBufferTooSmall => 11,
+            Refusal::TableHeadTooShort => 12,
+            Refusal::SlotCount => 13,
+            Refusal::GateCount => 14,
+            Refusal::TableTooShort => 15,
+            Refusal::UnknownKind => 16,
+            Refusal::WrongOperand => 17,
+            Refusal::ListLength => 18,
+            Refusal::ValueTooLarge => 19,
+            Refusal::WorkBufferTooSmall => 20,
+            Refusal::OutBufferTooSmall => 21,
+            Refusal::NumberTooLarge => 22,
+            Refusal::DigitTooLarge => 23,
+            Refusal::NumberTooWide => 24,
+            Refusal::ScoreWeight => 25,
+            Refusal::TotalWeight => 26,
+            Refusal::LastUseListTooShort => 27,
+            Refusal::LeftSlotsOutOfRange => 28,
+            Refusal::DepthAboveCap => 29,
+            Refusal::TooManyConditions => 30,
+            Refusal::NoOpenBuild => 31,
+        }
     }
 }
 
 // Levels. A type of its own, as is Cost, so that levels and hundredths never meet in one sum.
-#[derive(Clone, Copy)]
+#[derive(Clone, Copy, Debug, PartialEq, Eq)]
 pub struct Depth(pub u16);
 
 // Hundredths.
-#[derive(Clone, Copy)]
+#[derive(Clone, Copy, Debug, PartialEq, Eq)]
 pub struct Cost(pub u32);
 
 // The counts of a table.
-#[derive(Clone, Copy)]
+#[derive(Clone, Copy, Debug, PartialEq, Eq)]
 pub struct Report {
     pub gates: u16,
     pub products: u16,
     pub squares: u16,
     pub cost: Cost,
     pub depth: Depth,
-}
-
-// What an operation answers that tells no value.
-#[derive(Clone, Copy)]
-pub enum Settled {
-    Done,
-    Refused(Refusal),
-}
-
-// What Build, Forecast and Check answer, and the end of a build that is filled in condition by condition.
-#[derive(Clone, Copy)]
-pub enum Reported {
-    Success(Report),
-    Refused(Refusal),
 }
 
 // The larger of two depths.

@@ -1,11 +1,9 @@
 -- What Decode answers, as the code holds it. Encode tells no value.
-use Rattle.std.specs.Prelude.{ℕ}
-use Rattle.answer.specs.Numbers.{refusal_number}
-use Rattle.answer.specs.Outcome.{Answer, refused, accepted}
-use Rattle.coding.specs.declared.Decoded.{Decoded}
-use Rattle.coding.specs.declared.Decoded.TheVariants.{Number, Refused}
+use Rattle.std.specs.Prelude.{ℕ, Result}
+use Rattle.answer.specs.Outcome.{Answer}
+use Rattle.answer.specs.Settled.{answer_of}
+use Rattle.answer.specs.declared.Refusal.{Refusal}
 
--- the refusal's number, or the number decoded, for each case of the enum
-abbrev pub decode_answer : Decoded → Answer ℕ
-decode_answer (Number x) = accepted x
-decode_answer (Refused why) = refused (refusal_number why)
+-- the refusal's number, or the number decoded
+abbrev pub decode_answer : Result ℕ Refusal → Answer ℕ
+decode_answer = answer_of (λ number. number)

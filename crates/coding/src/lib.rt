@@ -9,29 +9,17 @@ ghost use Rattle.coding.specs.Answers.{decode_answer};
 ghost use Rattle.digits.specs.Encoding.{encoding};
 ghost use Rattle.digits.specs.Decoding.{total_of, decoding};
 
-use answer::{Refusal, Settled};
+use answer::Refusal;
 use digits::MOST_DIGITS;
-
-#[derive(Clone, Copy)]
-pub enum Decoded {
-    Number(u64),
-    Refused(Refusal),
-}
 
 // The largest u64.
 const LARGEST: u64 = 0xffff_ffff_ffff_ffff;
-
-fn wide(x: u8) -> u64
-    ensures { (result ≡ x) × (result < byte_values) }
-{
-    x as u64
-}
 
 // B = (p + 1) / 2.
 fn base_of(p: u8) -> u64
     ensures { (result ≡ base_of p) × (2 * result ≤ byte_values) }
 {
-    (wide(p) + 1) / 2
+    (u64::from(p) + 1) / 2
 }
 
 // Whether x is below base^n, which may pass 64 bits: then it is above every u64.
@@ -41,13 +29,11 @@ fn is_below_power(x: u64, base: u64, n: usize) -> bool
 {
     let most = LARGEST / base;
     let mut power: u64 = 1;
-    let mut i = 0;
-    while i < n {
+    for _ in 0..n {
         if most < power {
             return true;
         }
-        power = power * base;
-        i += 1;
+        power *= base;
     }
     x < power
 }
@@ -58,103 +44,72 @@ fn put_digits(x: u64, base: u64, n: usize, out: &mut [u8])
     ensures { out.new ≡ digits_of base n x ++ drop n out.old }
 {
     let mut rest = x;
-    let mut i = 0;
-    while i < n {
-        out[i] = (rest % base) as u8;
-        rest = rest / base;
-        i += 1;
+    for place in &mut out[..n] {
+        *place = (rest % base) as u8;
+        rest /= base;
     }
 }
 
 // Writes number as n digits at the start of out, or refuses and leaves out as it is.
-pub fn encode(p: u8, n: usize, number: u64, out: &mut [u8]) -> Settled
+pub fn encode(p: u8, n: usize, number: u64, out: &mut [u8]) -> Result<(), Refusal>
     ensures answers { settled_answer result ≡ (encoding p n number out.old).answer }
     ensures leaves { out.new ≡ (encoding p n number out.old).lent }
 {
     if !arithmetic::is_listed(p) {
-        return Settled::Refused(Refusal::PrimeNotListed);
+        return Err(Refusal::PrimeNotListed);
     }
-    if n < 1 {
-        return Settled::Refused(Refusal::DigitCount);
-    }
-    if MOST_DIGITS < n {
-        return Settled::Refused(Refusal::DigitCount);
+    if n < 1 || MOST_DIGITS < n {
+        return Err(Refusal::DigitCount);
     }
     if out.len() < n {
-        return Settled::Refused(Refusal::OutBufferTooSmall);
+        return Err(Refusal::OutBufferTooSmall);
     }
     let base = base_of(p);
     if !is_below_power(number, base, n) {
-        return Settled::Refused(Refusal::NumberTooLarge);
+        return Err(Refusal::NumberTooLarge);
     }
     put_digits(number, base, n, out);
-    Settled::Done
+    Ok(())
 }
 
 // Whether each digit is below base.
 pub fn are_below(digits: &[u8], base: u64) -> bool
     ensures { result ≡ all_below base digits.now }
 {
-    let mut i = 0;
-    while i < digits.len() {
-        if wide(digits[i]) >= base {
-            return false;
-        }
-        i += 1;
-    }
-    true
+    digits.iter().all(|digit| u64::from(*digit) < base)
 }
 
-// Whether sum * base + digit passes the largest u64, which is most * base + last.
-fn passes(sum: u64, digit: u64, base: u64, most: u64, last: u64) -> bool
-    requires { (most * base + last ≡ 2 ^ 64 - 1) × (last < base) × (digit < base) }
-    ensures { result ≡ ltb (2 ^ 64 - 1) (sum * base + digit) }
-{
-    if most < sum {
-        return true;
-    }
-    if sum < most {
-        return false;
-    }
-    last < digit
-}
-
-// The number that the digits stand for, from the highest digit down, unless it passes 64 bits.
-fn total(digits: &[u8], base: u64) -> Decoded
+// The sum with one more digit, unless it passes 64 bits.
+fn total(digits: &[u8], base: u64) -> Result<u64, Refusal>
     requires { (0 < base) × (all_below base digits.now ≡ true) }
     ensures { decode_answer result ≡ total_of base digits.now }
 {
-    let most = LARGEST / base;
-    let last = LARGEST % base;
     let mut sum: u64 = 0;
-    let mut i = digits.len();
-    while 0 < i {
-        i -= 1;
-        let digit = wide(digits[i]);
-        if passes(sum, digit, base, most, last) {
-            return Decoded::Refused(Refusal::NumberTooWide);
-        }
-        sum = sum * base + digit;
+    for digit in digits.iter().rev() {
+        let Some(shifted) = sum.checked_mul(base) else {
+            return Err(Refusal::NumberTooWide);
+        };
+        let Some(longer) = shifted.checked_add(u64::from(*digit)) else {
+            return Err(Refusal::NumberTooWide);
+        };
+        sum = longer;
     }
-    Decoded::Number(sum)
+    Ok(sum)
 }
 
 // The number that the digits stand for, or a refusal.
-pub fn decode(p: u8, digits: &[u8]) -> Decoded
+pub fn decode(p: u8, digits: &[u8]) -> Result<u64, Refusal>
     ensures { decode_answer result ≡ decoding p digits.now }
 {
     if !arithmetic::is_listed(p) {
-        return Decoded::Refused(Refusal::PrimeNotListed);
+        return Err(Refusal::PrimeNotListed);
     }
-    if digits.len() < 1 {
-        return Decoded::Refused(Refusal::DigitCount);
-    }
-    if MOST_DIGITS < digits.len() {
-        return Decoded::Refused(Refusal::DigitCount);
+    if digits.len() < 1 || MOST_DIGITS < digits.len() {
+        return Err(Refusal::DigitCount);
     }
     let base = base_of(p);
     if !are_below(digits, base) {
-        return Decoded::Refused(Refusal::DigitTooLarge);
+        return Err(Refusal::DigitTooLarge);
     }
     total(digits, base)
 }
