@@ -1,7 +1,7 @@
 // Arithmetic of the prime field: which primes are listed, the operations modulo p, logarithms.
 #![tactic(auto)]
 
-ghost use Rattle.std.specs.Prelude.{◌≡◌, ◌<◌};
+ghost use Rattle.std.specs.Prelude.{◌≡◌, ◌<◌, ◌≤◌, ◌%◌};
 ghost use Rattle.field.specs.Byte.{byte_values};
 ghost use Rattle.field.specs.Member.{member};
 ghost use Rattle.field.specs.Primes.{primes, listed};
@@ -14,6 +14,15 @@ const PRIMES: [u8; 53] = [
     101, 103, 107, 109, 113, 127, 131, 137, 139, 149, 151, 157, 163, 167, 173, 179, 181, 191, 193,
     197, 199, 211, 223, 227, 229, 233, 239, 241, 251,
 ];
+
+// An odd modulus from 3 on that is a byte.
+#[derive(Clone, Copy, Debug, PartialEq, Eq)]
+pub struct Modulus {
+    pub p: u16,
+    ghost least: { 3 ≤ p },
+    ghost odd: { p % 2 ≡ 1 },
+    ghost byte: { p < byte_values },
+}
 
 // The array of primes: that it is the list of the definition is its rule.
 fn listed_primes() -> [u8; 53]
