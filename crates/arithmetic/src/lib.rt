@@ -36,12 +36,8 @@ fn contains(list: &[u8], x: u8) -> bool
     ensures { result ≡ member x list.now }
 {
     let mut found = false;
-    let mut place = 0;
-    while place < list.len() {
-        if list[place] == x {
-            found = true;
-        }
-        place += 1;
+    for entry in list {
+        found |= *entry == x;
     }
     found
 }
@@ -61,14 +57,14 @@ pub fn remainder(x: u16, p: u8) -> u8
     if p == 0 {
         return 0;
     }
-    (x % (p as u16)) as u8
+    (x % u16::from(p)) as u8
 }
 
 // a + b modulo p.
 pub fn add_mod(a: u8, b: u8, p: u8) -> u8
     ensures { result ≡ add_mod p a b }
 {
-    remainder((a as u16) + (b as u16), p)
+    remainder(u16::from(a) + u16::from(b), p)
 }
 
 // a - b modulo p: minus b is b times p - 1.
@@ -78,40 +74,34 @@ pub fn sub_mod(a: u8, b: u8, p: u8) -> u8
     if p == 0 {
         return 0;
     }
-    remainder((a as u16) + ((p - 1) as u16) * (b as u16), p)
+    remainder(u16::from(a) + u16::from(p - 1) * u16::from(b), p)
 }
 
 // a times b modulo p.
 pub fn mul_mod(a: u8, b: u8, p: u8) -> u8
     ensures { result ≡ mul_mod p a b }
 {
-    remainder((a as u16) * (b as u16), p)
+    remainder(u16::from(a) * u16::from(b), p)
 }
 
 // The floor of log2 n, 0 at 0.
 pub fn floor_log2(n: u16) -> u16
     ensures { result ≡ flog n }
 {
-    let mut rest = n;
-    let mut halvings = 0;
-    while 1 < rest {
-        rest = rest / 2;
-        halvings += 1;
+    if n == 0 {
+        return 0;
     }
-    halvings
+    n.ilog2() as u16
 }
 
-// The ceiling of log2 n, 0 at 0.
+// The ceiling of log2 n, 0 at 0: above 1, one more than the floor of log2 (n - 1).
 pub fn ceil_log2(n: u16) -> u16
     ensures { result ≡ clog n }
 {
-    let mut rest = n;
-    let mut levels = 0;
-    while 1 < rest {
-        rest = rest / 2 + rest % 2;
-        levels += 1;
+    if n <= 1 {
+        return 0;
     }
-    levels
+    (n - 1).ilog2() as u16 + 1
 }
 
 pub fn wide(x: u8) -> usize

@@ -1,13 +1,8 @@
 -- The condition records as the loop that reads them meets them: the bytes from one record on, and what reading the first of them
 -- says of reading all.
 -- Assumes nothing.
-use mathlib.Core.Path.{◌≡◌, refl, sym, ap, ◌∙◌}
-use mathlib.Core.List.{List, [], ◌∷◌}
-use Prim.Native.Nat.{ℕ, suc, ◌+◌, ◌-◌, ◌*◌, ◌≤◌, ◌<◌, max, zero-le}
-use native.Mathlib.Omega.{arith}
-use native.Mathlib.Nat.{zero-add, add-zero, sub-zero, mul-le-mul_left}
-use lib.ListN.{drop}
-use lib.Seq.{drop-drop}
+use Rattle.std.proofs.Common.{◌≡◌, refl, sym, ap, ◌∙◌, List, [], ◌∷◌, ℕ, suc, ◌+◌, ◌-◌, ◌*◌, ◌≤◌, ◌<◌, max, arith, zero-add, add-zero, mul-le-mul_left, drop, drop-drop}
+use native.Mathlib.Nat.{sub-zero}
 use Rattle.answer.specs.Outcome.{Answer, refused, accepted, on_answer}
 use Rattle.answer.proofs.Outcome.{on_answer_same}
 use Rattle.field.specs.Sum.{total}
@@ -97,7 +92,6 @@ module _ (form : Form) (p : ℕ) where
 
   -- what is known between two turns: k records of count are read
   pub record AddsUp (records : List ℕ) (count k : ℕ) (sums : Sums) (whole : Answer Sums) : Type 0 where
-    pub most : k ≤ count
     pub few : (sums.slots ≤ most_digits * k) × (sums.weights ≤ 255 * k)
     pub goes : adding sums (read_conditions form p sums.slots (count - k) (record_at records k)) ≡ whole
 
@@ -105,7 +99,6 @@ module _ (form : Form) (p : ℕ) where
   starts records count =
       let none : record_size form * 0 ≡ 0 = omega arith in
       record {
-        most = zero-le;
         few = omega arith;
         goes = rw (sub-zero, none) (on_answer_same (read_conditions form p 0 count records) refused (λ cs. ap accepted (summed_none cs)));
       }
@@ -151,7 +144,6 @@ module _ (form : Form) (p : ℕ) where
       adds byte =
           let others = read_conditions form p (slots + c.digits) (count - (k + 1)) (drop (record_size form) (record_at records k)) in
           record {
-            most = omega arith;
             few = omega (arith, s.few, byte, digits_few);
             goes = rw (next_record records k)
                 (sym (one_more sums c others) ∙ rw (first_read slots (count - (k + 1)) (record_at records k) c first) at going);

@@ -2,3 +2,4 @@
 pub mod Conditions
 pub mod Summary
 pub mod ReadAs
+pub mod Iteration

@@ -1,15 +1,8 @@
 -- A card that was read: the card that it is, its conditions and their slots, and that record number k is read as the condition of
 -- that number.
 -- Assumes nothing.
-use mathlib.Core.Path.{◌≡◌, refl, sym, ap, ap₂, subst, ◌∙◌}
-use mathlib.Core.List.{List, [], ◌∷◌, ◌++◌}
-use Prim.Native.Nat.{ℕ, zero, suc, ◌+◌, ◌*◌, ◌≤◌, ◌<◌}
-use native.Mathlib.Omega.{arith}
-use native.Mathlib.Nat.{zero-add}
-use borrow.Author.Tests.{eqb-true}
-use lib.ListN.{length, get_or, take, drop, take-append-drop, length-drop}
-use lib.Seq.{drop-drop, take-add, get_or-drop}
-use Rattle.answer.specs.Outcome.{accepted}
+use Rattle.std.proofs.Common.{◌≡◌, refl, sym, ap, ap₂, subst, ◌∙◌, List, [], ◌∷◌, ◌++◌, ℕ, zero, suc, ◌+◌, ◌*◌, ◌≤◌, ◌<◌, arith, zero-add, eqb-true, length, get_or, take, drop, take-append-drop, drop-drop, take-add, get_or-drop}
+use Rattle.answer.specs.Outcome.{accepted, numbered}
 use Rattle.answer.proofs.Outcome.{answered, accepted_same}
 use Rattle.field.specs.Sum.{total}
 use Rattle.field.proofs.Tests.{both}
@@ -17,10 +10,9 @@ use Rattle.digits.specs.Number.{most_digits}
 use Rattle.circuit.specs.Bytes.{byte}
 use Rattle.circuit.specs.Every.{Every}
 use Rattle.circuit.proofs.Every.{every_map, every_drop}
-use Rattle.circuit.proofs.Records.{lent_from, lent_all}
 use Rattle.comparison.specs.Condition.{Condition, HasSlots}
-use Rattle.comparison.specs.Relation.{Relation, relation_number}
-use Rattle.comparison.proofs.Relations.{same_relation}
+use Rattle.comparison.specs.Relation.{Relation, relations}
+use Rattle.comparison.proofs.Relations.{relation_back}
 use Rattle.query.specs.Card.{Card, most_conditions, slots_of}
 use Rattle.query.specs.Form.{head_size, Form, Plain, Scored, Shared, record_size, takes_next}
 use Rattle.query.specs.Reading.{read_condition, read_card}
@@ -32,7 +24,7 @@ use Rattle.query.proofs.Reading.{Says, says, condition_at, reads}
 use Rattle.relations.specs.Relations.{relation_is}
 use Rattle.card.specs.declared.CardHead.{CardHead}
 use Rattle.card.specs.declared.Record.{Record}
-use Rattle.card.specs.Parts.{form_is, record_is, weight_in, left_in, Summary, summary, head_is}
+use Rattle.card.specs.Parts.{form_is, record_is, records_from, weight_in, left_in, Summary, summary, head_is}
 use Rattle.card.specs.Conditions.{ReadAs, conditions_of, Taken, IsRecord, IsWeight}
 use Rattle.card.proofs.Conditions.{record_within}
 
@@ -112,53 +104,56 @@ slots_after bytes head k slot r e so_far is =
 -- ---- record number k
 
 -- a record at this place, of a form and a prime, is the condition of number k
-abbrev ReadAt : List ℕ → ℕ → ℕ → Summary → List Condition → Type 0
-ReadAt bytes k size said cs =
+abbrev ReadAt : List ℕ → ℕ → Summary → List Condition → Type 0
+ReadAt bytes k said cs =
     (c : Condition)
     × (drop k cs ≡ c ∷ drop (k + 1) cs)
-    × (read_condition said.form said.prime (slots_of (take k cs)) (lent_from bytes (head_size + size * k)) ≡ accepted c)
+    × (read_condition said.form said.prime (slots_of (take k cs)) (records_from said.form k bytes) ≡ accepted c)
 
--- in the bytes of a card, with the size of its form
-module _ (bytes : List ℕ) (card : Card) (k size : ℕ) (e : read_card bytes ≡ accepted card) (l : k < length card.conditions)
-    (is : size ≡ record_size card.form) where
-  in_card : head_size + size * k + size ≤ length bytes
+-- in the bytes of a card
+module _ (bytes : List ℕ) (card : Card) (k : ℕ) (e : read_card bytes ≡ accepted card) (l : k < length card.conditions) where
+  in_card : head_size + record_size card.form * k + record_size card.form ≤ length bytes
   in_card =
       let r = reads bytes card e in
-      let count = length card.conditions in
       omega (
         arith,
-        record_within size count k l,
-        ap (λ (n : ℕ). n * count) is,
+        record_within (record_size card.form) (length card.conditions) k l,
         r.size,
         ap (λ (n : ℕ). record_size card.form * n) r.count,
       )
 
-  of_card : ReadAt bytes k size (summary card) card.conditions
+  of_card : ReadAt bytes k (summary card) card.conditions
   of_card =
       let r = reads bytes card e in
       let found = condition_at card.form card.prime 0 (byte bytes 4) k (drop head_size bytes) card.conditions r.conditions (omega (arith, l, r.count)) in
-      let place = lent_all bytes (head_size + size * k) ∙ sym (drop-drop (size * k) head_size bytes) ∙ ap (λ (n : ℕ). drop (n * k) (drop head_size bytes)) is in
-      (found.0, found.1, ap₂ (read_condition card.form card.prime) (sym (zero-add _)) place ∙ found.2)
+      (found.0, found.1, ap₂ (read_condition card.form card.prime) (sym (zero-add _)) (sym (drop-drop (record_size card.form * k) head_size bytes)) ∙ found.2)
 
 -- the same as the code holds it
-module _ (bytes : List ℕ) (head : CardHead) (k size : ℕ) (e : ReadAs bytes head) (l : k < head.count)
-    (is : size ≡ record_size (form_is head.form)) where
+module _ (bytes : List ℕ) (head : CardHead) (k : ℕ) (e : ReadAs bytes head) (l : k < head.count) where
   abbrev read : Known bytes head
   read = known_as bytes head e
 
   few : k < length read.card.conditions
   few = omega (arith, l, ap (λ (s : Summary). s.count) read.says)
 
-  sized : size ≡ record_size read.card.form
-  sized = is ∙ ap (λ (s : Summary). record_size s.form) read.says
+  -- the record lies within the bytes, its size being that of the form
+  pub record_long : (size : ℕ) → size ≡ record_size (form_is head.form) → head_size + size * k + record_size (form_is head.form) ≤ length bytes
+  record_long size is =
+      let long = subst (λ (s : Summary). head_size + record_size s.form * k + record_size s.form ≤ length bytes) (sym read.says) (in_card bytes read.card k read.reads few) in
+      omega (arith, ap (λ (n : ℕ). n * k) is, long)
 
-  pub record_long : head_size + size * k + record_size (form_is head.form) ≤ length bytes
-  record_long = omega (arith, is, in_card bytes read.card k size read.reads few sized)
-
-  pub record_read : ReadAt bytes k size (head_is head) (conditions_of bytes)
+  record_read : ReadAt bytes k (head_is head) (conditions_of bytes)
   record_read =
-      subst (λ (s : Summary). ReadAt bytes k size s (conditions_of bytes)) (sym read.says)
-      (subst (ReadAt bytes k size (summary read.card)) (sym read.conditions) (of_card bytes read.card k size read.reads few sized))
+      subst (λ (s : Summary). ReadAt bytes k s (conditions_of bytes)) (sym read.says)
+      (subst (ReadAt bytes k (summary read.card)) (sym read.conditions) (of_card bytes read.card k read.reads few))
+
+  -- and is the condition of its number, the bytes from it on being these
+  pub record_told : (slot : ℕ) (from : List ℕ) → slot ≡ slots_of (take k (conditions_of bytes)) → from ≡ records_from (form_is head.form) k bytes
+      → (c : Condition)
+      × (drop k (conditions_of bytes) ≡ c ∷ drop (k + 1) (conditions_of bytes))
+      × (read_condition (form_is head.form) head.prime slot from ≡ accepted c)
+  record_told slot from e place =
+      let told = record_read in (told.0, told.1, ap₂ (read_condition (form_is head.form) head.prime) e place ∙ told.2)
 
 -- ---- what a record says, by its bytes
 
@@ -179,31 +174,28 @@ left_in_lem Shared p slot r n bytes c l t = ap (λ (tail : List ℕ). get_or tai
 abbrev condition_with : Relation → ℕ → ℕ → ℕ → ℕ → Condition
 condition_with r n l s w = record { relation = r; digits = n; left = l; right = s; weight = w }
 
-module _ (form : Form) (p slot at : ℕ) (bytes : List ℕ) (c : Condition) (l : at + record_size form ≤ length bytes)
-    (e : read_condition form p slot (lent_from bytes at) ≡ accepted c) where
-  told : Says form p slot (drop at bytes) c
-  told = says form p slot (drop at bytes) c (ap (read_condition form p slot) (sym (lent_all bytes at)) ∙ e)
+module _ (form : Form) (p slot : ℕ) (bytes : List ℕ) (c : Condition) (long : record_size form ≤ length bytes)
+    (e : read_condition form p slot bytes ≡ accepted c) where
+  told : Says form p slot bytes c
+  told = says form p slot bytes c e
 
-  -- the number of its relation
-  pub relation_in : relation_number c.relation ≡ byte bytes (at + 2)
-  relation_in = told.relation ∙ get_or-drop at bytes 2 0
-
-  long : record_size form ≤ length (drop at bytes)
-  long = rw length-drop (omega arith)
+  -- its relation is that of the number
+  pub relation_told : numbered 8 (byte bytes 2) relations ≡ accepted c.relation
+  relation_told = rw told.relation at (relation_back c.relation)
 
   -- its weight and its first left slot, where its form keeps them
-  pub weight_told : c.weight ≡ weight_in form (drop at bytes)
-  weight_told = weight_in_lem form p slot _ _ (drop at bytes) c long told.tail
+  pub weight_told : c.weight ≡ weight_in form bytes
+  weight_told = weight_in_lem form p slot _ _ bytes c long told.tail
 
-  left_told : c.left ≡ left_in form slot (drop at bytes)
-  left_told = left_in_lem form p slot _ _ (drop at bytes) c long told.tail
+  left_told : c.left ≡ left_in form slot bytes
+  left_told = left_in_lem form p slot _ _ bytes c long told.tail
 
   -- so a record with these fields is the condition
-  pub is_condition : (r : Record) → relation_number (relation_is r.relation) ≡ byte bytes (at + 2) → r.digits ≡ byte bytes (at + 3)
-      → r.left ≡ left_in form slot (drop at bytes) → r.right ≡ slot → r.weight ≡ weight_in form (drop at bytes) → record_is r ≡ c
+  pub is_condition : (r : Record) → accepted (relation_is r.relation) ≡ numbered 8 (byte bytes 2) relations → r.digits ≡ byte bytes 3
+      → r.left ≡ left_in form slot bytes → r.right ≡ slot → r.weight ≡ weight_in form bytes → record_is r ≡ c
   is_condition r number digits left right weight =
-      let relation = same_relation (relation_is r.relation) c.relation (number ∙ sym relation_in) in
-      let count = digits ∙ sym (told.tail.digits ∙ get_or-drop at bytes 3 0) in
+      let relation = accepted_same (number ∙ relation_told) in
+      let count = digits ∙ sym told.tail.digits in
       let heavy = weight ∙ sym weight_told in
       let kept = told.tail.kept in
       ap₂ (λ (q : Relation) (n : ℕ). condition_with q n r.left r.right r.weight) relation count

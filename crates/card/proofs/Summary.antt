@@ -1,12 +1,7 @@
 -- What a card says, from what its records were read as: its slots are the digits that were added up, and 10 is tested on them,
 -- 26 on the weights that were added up with them.
 -- Assumes nothing.
-use mathlib.Core.Path.{◌≡◌, sym}
-use mathlib.Core.List.{List}
-use Prim.Native.Nat.{ℕ, ◌-◌}
-use native.Mathlib.Omega.{arith}
-use lib.ListN.{length, take, drop, length-drop}
-use lib.Seq.{take_all}
+use Rattle.std.proofs.Common.{◌≡◌, sym, List, ℕ, ◌-◌, arith, length, take, drop, length-drop, take_all}
 use Rattle.answer.specs.Outcome.{Answer, refused, accepted, on_answer}
 use Rattle.answer.proofs.Outcome.{on_answer_rule, answered, accepted_same, was_refused}
 use Rattle.comparison.specs.Condition.{Condition}

@@ -1,6 +1,5 @@
 -- A form, a record and a card's head, as the code holds them.
-use Rattle.std.specs.Prelude.{ℕ, List, length}
-use Rattle.answer.specs.Numbers.{refusal_number}
+use Rattle.std.specs.Prelude.{ℕ, ◌+◌, ◌*◌, List, length, drop}
 use Rattle.answer.specs.Outcome.{Answer, refused, accepted, on_answer}
 use Rattle.circuit.specs.Bytes.{byte}
 use Rattle.circuit.specs.Table.{SlotCounts}
@@ -12,19 +11,11 @@ use Rattle.query.specs.Whole.{counts_by}
 use Rattle.relations.specs.Relations.{relation_is}
 use Rattle.card.specs.declared.Form.{Form}
 use Rattle.card.specs.declared.Form.TheVariants as form
-use Rattle.card.specs.declared.FormRead.{FormRead}
-use Rattle.card.specs.declared.FormRead.TheVariants as form_read
 use Rattle.card.specs.declared.Question.{Question}
 use Rattle.card.specs.declared.Question.TheVariants as question
 use Rattle.card.specs.declared.Record.{Record}
-use Rattle.card.specs.declared.RecordRead.{RecordRead}
-use Rattle.card.specs.declared.RecordRead.TheVariants as record_read
 use Rattle.card.specs.declared.Sums.{Sums}
-use Rattle.card.specs.declared.SumsRead.{SumsRead}
-use Rattle.card.specs.declared.SumsRead.TheVariants as sums_read
 use Rattle.card.specs.declared.CardHead.{CardHead}
-use Rattle.card.specs.declared.CardRead.{CardRead}
-use Rattle.card.specs.declared.CardRead.TheVariants as card_read
 
 -- ---- forms
 
@@ -33,11 +24,6 @@ abbrev pub form_is : Form → query.Form
 form_is form.Plain = query.Plain
 form_is form.Scored = query.Scored
 form_is form.Shared = query.Shared
-
--- the refusal's number, or the form, for each case of the enum
-abbrev pub form_answer : FormRead → Answer query.Form
-form_answer (form_read.Read form) = accepted (form_is form)
-form_answer (form_read.Refused why) = refused (refusal_number why)
 
 -- the question of the same name
 abbrev pub question_is : Question → query.Question
@@ -51,10 +37,9 @@ abbrev pub record_is : Record → Condition
 record_is r =
     record { relation = relation_is r.relation; digits = r.digits; left = r.left; right = r.right; weight = r.weight }
 
--- the refusal's number, or the condition, for each case of the enum
-abbrev pub record_answer : RecordRead → Answer Condition
-record_answer (record_read.Read r) = accepted (record_is r)
-record_answer (record_read.Refused why) = refused (refusal_number why)
+-- the bytes of a card of this form from record number k on
+abbrev pub records_from : query.Form → ℕ → List ℕ → List ℕ
+records_from form k bytes = drop (query.head_size + query.record_size form * k) bytes
 
 -- the weight in the record that the bytes begin with, or 0 where its form has none
 abbrev pub weight_in : query.Form → List ℕ → ℕ
@@ -75,11 +60,6 @@ sums_of cs = record { slots = slots_of cs; weights = total_weight cs; left = lef
 -- those of the next records, or the first rule broken
 abbrev pub read_sums : query.Form → ℕ → ℕ → List ℕ → Answer Sums
 read_sums form p count bytes = on_answer (read_conditions form p 0 count bytes) refused (λ cs. accepted (sums_of cs))
-
--- the refusal's number, or the sums, for each case of the enum
-abbrev pub sums_answer : SumsRead → Answer Sums
-sums_answer (sums_read.Read sums) = accepted sums
-sums_answer (sums_read.Refused why) = refused (refusal_number why)
 
 -- ---- cards
 
@@ -119,11 +99,6 @@ head_is head = record {
   slots = head.slots;
   left = head.left;
 }
-
--- the refusal's number, or what the card says, for each case of the enum
-abbrev pub card_answer : CardRead → Answer Summary
-card_answer (card_read.Read head) = accepted (head_is head)
-card_answer (card_read.Refused why) = refused (refusal_number why)
 
 -- the slot counts in the head of the table of a card that says this
 abbrev pub slots_said : Summary → SlotCounts

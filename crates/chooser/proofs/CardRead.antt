@@ -30,6 +30,7 @@ use Rattle.card.specs.declared.CardHead.{CardHead}
 use Rattle.card.specs.Conditions.{ReadAs, conditions_of}
 use Rattle.card.specs.Parts.{Summary}
 use Rattle.card.proofs.ReadAs.{known_as}
+use Rattle.powers.specs.declared.OrderTables.{OrderTables}
 use Rattle.draft.specs.Conditions.{any_order, Ready}
 use Rattle.rating.specs.declared.OrderDigits.{OrderDigits}
 use Rattle.rating.specs.Rated.{Searching}
@@ -66,35 +67,18 @@ some_order (c ∷ cs) some = go (is_order c.relation) refl (some_order cs)
         let none : order_digits_in c ≡ 0 = rw (e, order_digits_in) in
         ap (λ (b : Bool). b || any_order cs) e ∙ later (λ z. some (omega (arith, none, z)))
 
--- a scratch table that is as long serves as well
-pub as_long : {bytes : List ℕ} {head : CardHead} {base : ℕ} {digits : OrderDigits} {equal : ℕ} {constants powers table other : List ℕ}
-    → length other ≡ length table → Searching bytes head base digits equal constants powers table
-    → Searching bytes head base digits equal constants powers other
-as_long same s = record {
-  reads = s.reads;
-  ground = s.ground;
-  all = s.all;
-  higher = s.higher;
-  few = s.few;
-  tested = s.tested;
-  prepared = s.prepared;
-  room = subst (λ (n : ℕ). 8 * (most_gates + 1) ≤ n) (sym same) s.room;
-}
-
 -- what a search goes by, of a card that has an order digit
-pub searching : {bytes : List ℕ} {head : CardHead} {digits : OrderDigits} {equal : ℕ} {constants powers table : List ℕ} (base : Report)
-    → ReadAs bytes head → Ready head.prime (conditions_of bytes) constants powers → accepted base ≡ forecasting bytes
+pub searching : {bytes : List ℕ} {head : CardHead} {digits : OrderDigits} {equal : ℕ} {tables : OrderTables} (base : Report)
+    → Ready head.prime (conditions_of bytes) tables → accepted base ≡ forecasting bytes
     → (digits.all ≡ order_digits (conditions_of bytes)) × (digits.higher ≡ higher_digits (conditions_of bytes))
     × (digits.all ≤ most_digits) × (digits.higher ≤ digits.all)
-    → (digits.all ≡ 0 → ⊥) → (equal ≡ (equality_test head.prime).count) × (equal ≤ head.prime) → 8 * (most_gates + 1) ≤ length table
-    → Searching bytes head base.gates digits equal constants powers table
-searching {bytes} base reads ready told counted some tested room = record {
-  reads = reads;
+    → (digits.all ≡ 0 → ⊥) → (equal ≡ (equality_test head.prime).count) × (equal ≤ head.prime)
+    → Searching bytes head base.gates digits equal tables
+searching {bytes} base ready told counted some tested = record {
   ground = λ card e. ap (λ (r : Report). r.gates) (base_told bytes card e base told);
   all = counted.0;
   higher = counted.1;
   few = (counted.2, counted.3);
   tested = tested;
   prepared = ready (some_order (conditions_of bytes) (λ none. some (counted.0 ∙ none)));
-  room = room;
 }

@@ -4,6 +4,7 @@
 use mathlib.Core.Path.{◌≡◌, refl, sym, ap, ap₂, subst, ◌∙◌}
 use mathlib.Core.Bool.{Bool, true, false, ◌&&◌, ◌||◌, and-true, and-false}
 use Prim.Native.Nat.{ℕ, suc, ◌+◌, ◌-◌, ◌≤◌, ◌<◌}
+use Rattle.std.specs.Prelude.{Option, None, Some, Result, Ok, Err}
 use native.Mathlib.Omega.{arith}
 use native.Mathlib.Numerals.{add-one}
 use borrow.Author.Tests.{ltb-true, ltb-false, le-leb, lt-leb}
@@ -14,8 +15,6 @@ use Rattle.answer.specs.Outcome.{Answer, refused, accepted, refuse}
 use Rattle.answer.specs.Report.{Report, report_of, report_answer}
 use Rattle.answer.specs.declared.Report as declared
 use Rattle.answer.specs.declared.Refusal.{Refusal}
-use Rattle.answer.specs.declared.Reported.{Reported}
-use Rattle.answer.specs.declared.Reported.TheVariants.{Success, Refused}
 use Rattle.answer.proofs.Outcome.{passed, accepted_same, refused≢accepted}
 use Rattle.circuit.specs.Report.{report}
 use Rattle.circuit.specs.Table.{Table, most_gates}
@@ -24,8 +23,6 @@ use Rattle.offer.specs.Best.{Choice, nothing, chosen, precedes, taken, better, b
 use Rattle.offer.specs.Offer.{step_table, step_cost, step_depth, within, counts}
 use Rattle.rating.specs.Rated.{rated}
 use Rattle.chooser.specs.declared.Rated.{Rated}
-use Rattle.chooser.specs.declared.Best.{Best}
-use Rattle.chooser.specs.declared.Best.TheVariants.{Nothing, Chosen}
 use Rattle.chooser.specs.Kept.{choice_is, Kept}
 
 -- ---- what a table is rated
@@ -73,7 +70,7 @@ abbrev pub improved : ℕ → Card → ℕ → Choice → Choice
 improved cap c step best = better (step_cost c) (step_depth c) (counts cap c) step best
 
 -- what `better` answers of a step size: the definition's choice, with its report
-abbrev pub Improves : ℕ → ℕ → Reported → Best → Best → Type 0
+abbrev pub Improves : ℕ → ℕ → Result declared.Report Refusal → Option Rated → Option Rated → Type 0
 Improves cap step told best r =
     (c : Card) → report_answer told ≡ rated c step → Kept c best → (choice_is r ≡ improved cap c step (choice_is best)) × Kept c r
 
@@ -96,60 +93,60 @@ decides cap step c new old b t e q l d =
     let same = ap₂ is_before (told_report (step_table c step) new e) (told_report (step_table c b) old q) ∙ d in
     ap (λ (u : Bool). taken_of cap c u step (chosen b)) (sym (ap₂ (λ (u v : Bool). u && v) counted same))
 
-module _ (cap step : ℕ) (told : Reported) where
+module _ (cap step : ℕ) (told : Result declared.Report Refusal) where
   -- too many gates for a table
-  pub keeps_refused : (why : Refusal) (best : Best) → told ≡ Refused why → Improves cap step told best best
+  pub keeps_refused : (why : Refusal) (best : Option Rated) → told ≡ Err why → Improves cap step told best best
   keeps_refused why best q c e kept =
       (uncounted cap step c (choice_is best) (refused_not cap (refusal_number why) (step_table c step) (sym (ap report_answer q) ∙ e)), kept)
 
-  module _ (new : declared.Report) (success : told ≡ Success new) where
+  module _ (new : declared.Report) (success : told ≡ Ok new) where
     is_rated : (c : Card) → report_answer told ≡ rated c step → rated c step ≡ accepted (report_of new)
     is_rated c e = sym e ∙ ap report_answer success
 
     -- deeper than the cap
-    pub keeps_deep : (best : Best) → cap < new.depth.0 → Improves cap step told best best
+    pub keeps_deep : (best : Option Rated) → cap < new.depth.0 → Improves cap step told best best
     keeps_deep best l c e kept =
         let deep = told_counts cap (step_table c step) (report_of new) (is_rated c e) ∙ lt-leb new.depth.0 cap l in
         (uncounted cap step c (choice_is best) deep, kept)
 
     -- the step size is chosen, with the report on its table
-    abbrev pub Takes : Best → Type 0
+    abbrev pub Takes : Option Rated → Type 0
     Takes best =
         (c : Card) → report_answer told ≡ rated c step → Kept c best
         → (chosen step ≡ improved cap c step (choice_is best)) × (rated c step ≡ accepted (report_of new))
 
     -- the first within the cap
-    pub takes_first : (best : Best) → best ≡ Nothing → new.depth.0 ≤ cap → Takes best
+    pub takes_first : (best : Option Rated) → best ≡ None → new.depth.0 ≤ cap → Takes best
     takes_first best q l c e kept =
         let counted = told_counts cap (step_table c step) (report_of new) (is_rated c e) ∙ le-leb new.depth.0 cap l in
         let first = ap (λ (b : Bool). taken_of cap c b step nothing) (sym counted) in
-        (first ∙ ap (λ (b : Best). improved cap c step (choice_is b)) (sym q), is_rated c e)
+        (first ∙ ap (λ (b : Option Rated). improved cap c step (choice_is b)) (sym q), is_rated c e)
 
     -- a later one, by whether it precedes
-    module _ (best : Best) (old : Rated) (one : best ≡ Chosen old) (l : new.depth.0 ≤ cap) where
+    module _ (best : Option Rated) (old : Rated) (one : best ≡ Some old) (l : new.depth.0 ≤ cap) where
       choice : (c : Card) (t : Bool) → is_before (report_of new) (report_of old.told) ≡ t → report_answer told ≡ rated c step → Kept c best
           → taken_of cap c t step (chosen old.step) ≡ improved cap c step (choice_is best)
       choice c t d e kept =
           decides cap step c (report_of new) (report_of old.told) old.step t (is_rated c e) (subst (Kept c) one kept) l d
-          ∙ ap (λ (b : Best). improved cap c step (choice_is b)) (sym one)
+          ∙ ap (λ (b : Option Rated). improved cap c step (choice_is b)) (sym one)
 
       pub takes_before : is_before (report_of new) (report_of old.told) ≡ true → Takes best
       takes_before d c e kept = (choice c true d e kept, is_rated c e)
 
-      pub keeps_before : is_before (report_of new) (report_of old.told) ≡ false → Improves cap step told best (Chosen old)
+      pub keeps_before : is_before (report_of new) (report_of old.told) ≡ false → Improves cap step told best (Some old)
       keeps_before d c e kept = (choice c false d e kept, subst (Kept c) one kept)
 
 -- ---- one step size after the other
 
 module _ (cap n : ℕ) (c : Card) where
   -- the step sizes from k on
-  abbrev pub rest : ℕ → Best → Choice
+  abbrev pub rest : ℕ → Option Rated → Choice
   rest k best = best_from (step_cost c) (step_depth c) (counts cap c) (n + 1 - k) k (choice_is best)
 
-  pub rest_next : (k : ℕ) (best later : Best) → k ≤ n → choice_is later ≡ improved cap c k (choice_is best) → rest (k + 1) later ≡ rest k best
+  pub rest_next : (k : ℕ) (best later : Option Rated) → k ≤ n → choice_is later ≡ improved cap c k (choice_is best) → rest (k + 1) later ≡ rest k best
   unfolding best_from
   rest_next k best later l e = let m : n + 1 - k ≡ suc (n + 1 - (k + 1)) = omega arith in rw (m, e, add-one k)
 
-  pub rest_none : (k : ℕ) (best : Best) → n < k → rest k best ≡ choice_is best
+  pub rest_none : (k : ℕ) (best : Option Rated) → n < k → rest k best ≡ choice_is best
   unfolding best_from
   rest_none k best l = let m : n + 1 - k ≡ 0 = omega arith in rw m

@@ -4,7 +4,8 @@
 ghost use Rattle.std.specs.Prelude.{◌≡◌, true, ◌++◌, ◌+◌, ◌-◌, ◌*◌, ◌^◌, ◌≤◌, ◌<◌, ltb, length, drop};
 ghost use Rattle.answer.specs.Settled.{settled_answer};
 ghost use Rattle.field.specs.Byte.{byte_values};
-ghost use Rattle.digits.specs.Number.{base as base_of, all_below, digits_of};
+ghost use Rattle.field.specs.Primes.{listed};
+ghost use Rattle.digits.specs.Number.{base, all_below, digits_of};
 ghost use Rattle.coding.specs.Answers.{decode_answer};
 ghost use Rattle.digits.specs.Encoding.{encoding};
 ghost use Rattle.digits.specs.Decoding.{total_of, decoding};
@@ -12,41 +13,76 @@ ghost use Rattle.digits.specs.Decoding.{total_of, decoding};
 use answer::Refusal;
 use digits::MOST_DIGITS;
 
-// The largest u64.
-const LARGEST: u64 = 0xffff_ffff_ffff_ffff;
-
-// B = (p + 1) / 2.
-fn base_of(p: u8) -> u64
-    ensures { (result ≡ base_of p) × (2 * result ≤ byte_values) }
+// Whether sum * base + digit passes the largest u64, which is most * base + last.
+fn passes(sum: u64, digit: u64, base: u64, most: u64, last: u64) -> bool
+    requires { (most * base + last ≡ 2 ^ 64 - 1) × (last < base) × (digit < base) }
+    ensures { result ≡ ltb (2 ^ 64 - 1) (sum * base + digit) }
 {
-    (u64::from(p) + 1) / 2
+    most < sum || (most == sum && last < digit)
 }
 
-// Whether x is below base^n, which may pass 64 bits: then it is above every u64.
-fn is_below_power(x: u64, base: u64, n: usize) -> bool
-    requires { 0 < base }
-    ensures { result ≡ ltb x (base ^ n) }
-{
-    let most = LARGEST / base;
-    let mut power: u64 = 1;
-    for _ in 0..n {
-        if most < power {
-            return true;
+// The base of digits.
+#[derive(Clone, Copy)]
+struct Base {
+    b: u64,
+    ghost some: { 0 < b },
+    ghost byte: { b ≤ byte_values },
+}
+
+impl Base {
+    // The base of a listed prime's digits, B = (p + 1) / 2.
+    fn of(p: u8) -> Base
+        requires { listed p ≡ true }
+        ensures { result.b ≡ base p }
+    {
+        Base {
+            b: (u64::from(p) + 1) / 2,
         }
-        power *= base;
     }
-    x < power
-}
 
-// Puts the n lowest digits of x at the start of out.
-fn put_digits(x: u64, base: u64, n: usize, out: &mut [u8])
-    requires { (0 < base) × (base ≤ byte_values) × (n ≤ length out.old) }
-    ensures { out.new ≡ digits_of base n x ++ drop n out.old }
-{
-    let mut rest = x;
-    for place in &mut out[..n] {
-        *place = (rest % base) as u8;
-        rest /= base;
+    // Whether x has n digits, which is to be below b^n. That may pass 64 bits: then it is above every u64.
+    fn has_digits(self, x: u64, n: usize) -> bool
+        ensures { result ≡ ltb x (self.b ^ n) }
+    {
+        let most = u64::MAX / self.b;
+        let mut power: u64 = 1;
+        for _ in 0..n {
+            if most < power {
+                return true;
+            }
+            power *= self.b;
+        }
+        x < power
+    }
+
+    // Puts the n lowest digits of x at the start of out.
+    fn put_digits(self, x: u64, n: usize, out: &mut [u8])
+        requires { n ≤ length out.old }
+        ensures { out.new ≡ digits_of self.b n x ++ drop n out.old }
+    {
+        let mut rest = x;
+        for place in &mut out[..n] {
+            *place = (rest % self.b) as u8;
+            rest /= self.b;
+        }
+    }
+
+    // The number that the digits stand for, from the highest digit down, unless it passes 64 bits.
+    fn total(self, digits: &[u8]) -> Result<u64, Refusal>
+        requires { all_below self.b digits.now ≡ true }
+        ensures { decode_answer result ≡ total_of self.b digits.now }
+    {
+        let most = u64::MAX / self.b;
+        let last = u64::MAX % self.b;
+        let mut sum: u64 = 0;
+        for entry in digits.iter().rev() {
+            let digit = u64::from(*entry);
+            if passes(sum, digit, self.b, most, last) {
+                return Err(Refusal::NumberTooWide);
+            }
+            sum = sum * self.b + digit;
+        }
+        Ok(sum)
     }
 }
 
@@ -64,11 +100,11 @@ pub fn encode(p: u8, n: usize, number: u64, out: &mut [u8]) -> Result<(), Refusa
     if out.len() < n {
         return Err(Refusal::OutBufferTooSmall);
     }
-    let base = base_of(p);
-    if !is_below_power(number, base, n) {
+    let base = Base::of(p);
+    if !base.has_digits(number, n) {
         return Err(Refusal::NumberTooLarge);
     }
-    put_digits(number, base, n, out);
+    base.put_digits(number, n, out);
     Ok(())
 }
 
@@ -77,24 +113,6 @@ pub fn are_below(digits: &[u8], base: u64) -> bool
     ensures { result ≡ all_below base digits.now }
 {
     digits.iter().all(|digit| u64::from(*digit) < base)
-}
-
-// The sum with one more digit, unless it passes 64 bits.
-fn total(digits: &[u8], base: u64) -> Result<u64, Refusal>
-    requires { (0 < base) × (all_below base digits.now ≡ true) }
-    ensures { decode_answer result ≡ total_of base digits.now }
-{
-    let mut sum: u64 = 0;
-    for digit in digits.iter().rev() {
-        let Some(shifted) = sum.checked_mul(base) else {
-            return Err(Refusal::NumberTooWide);
-        };
-        let Some(longer) = shifted.checked_add(u64::from(*digit)) else {
-            return Err(Refusal::NumberTooWide);
-        };
-        sum = longer;
-    }
-    Ok(sum)
 }
 
 // The number that the digits stand for, or a refusal.
@@ -107,9 +125,9 @@ pub fn decode(p: u8, digits: &[u8]) -> Result<u64, Refusal>
     if digits.len() < 1 || MOST_DIGITS < digits.len() {
         return Err(Refusal::DigitCount);
     }
-    let base = base_of(p);
-    if !are_below(digits, base) {
+    let base = Base::of(p);
+    if !are_below(digits, base.b) {
         return Err(Refusal::DigitTooLarge);
     }
-    total(digits, base)
+    base.total(digits)
 }

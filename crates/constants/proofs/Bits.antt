@@ -1,10 +1,8 @@
 -- The b of a SCALE by x modulo p: the remainder of x moved up by p / 2, moved down again within sixteen bits.
 -- Assumes nothing.
-use mathlib.Core.Path.{◌≡◌, refl, sym, ap, ◌∙◌}
-use Prim.Native.Nat.{ℕ, ◌+◌, ◌-◌, ◌/◌, ◌%◌, ◌≤◌, ◌<◌}
-use native.Mathlib.Omega.{arith}
+use Rattle.std.proofs.Common.{◌≡◌, refl, sym, ap, ◌∙◌, ℕ, ◌+◌, ◌-◌, ◌/◌, ◌%◌, ◌≤◌, ◌<◌, arith, mod-lt, mod-eq_of_lt, lt_of_not-le}
 use native.Mathlib.Decide.{dec_le}
-use native.Mathlib.Nat.{mod-mod, mod-lt, mod-eq_of_lt, lt_of_not-le}
+use native.Mathlib.Nat.{mod-mod}
 use Rattle.field.specs.Half.{half}
 use Rattle.field.specs.Modular.{residue}
 use Rattle.field.proofs.Modular.{mod_of, add_cong, residue_is}

@@ -2,15 +2,11 @@
 -- b^d and b^e are the powers b^(d+e), modulo p; and the sum of the powers b^(p-2m) is the constant number m, counted from 1. So with m constants to write the powers
 -- are b^(p-2m), and each turn writes one and raises the powers by b^2.
 -- Assumes nothing.
-use mathlib.Core.Path.{◌≡◌, refl, sym, ap, ap₂, ◌∙◌}
-use mathlib.Core.List.{List, [], ◌∷◌, ◌++◌, map, map-append, append_assoc, append-nil}
-use Prim.Native.Nat.{ℕ, zero, suc, ◌+◌, ◌-◌, ◌*◌, ◌/◌, ◌%◌, ◌^◌, ◌≤◌, ◌<◌}
-use native.Mathlib.Omega.{arith}
-use native.Mathlib.Numerals.{add-one, sub-one}
+use Rattle.std.proofs.Common.{◌≡◌, refl, sym, ap, ap₂, ◌∙◌, List, [], ◌∷◌, ◌++◌, map, append_assoc, ℕ, zero, suc, ◌+◌, ◌-◌, ◌*◌, ◌/◌, ◌%◌, ◌^◌, ◌≤◌, ◌<◌, arith, add-one, sub-one, pow-add, length, take, drop, set, get_or, length-append, length-drop, length-set, drop_of_length-le, length-take-le, take_at, drop-cons, drop-set-lt, get_or-set_same}
+use mathlib.Core.List.{map-append}
 use native.Mathlib.Nat.{mod-mod, pow-zero, pow-succ'}
-use lib.Pow.{pow-add}
-use lib.ListN.{length, take, drop, set, get_or, length-append, length-take, length-drop, length-set, drop_of_length-le, get_or-map, length-map}
-use lib.Seq.{length-take-le, take_at, drop-cons, drop-set-lt, set_at, get_or_at, get_or-set_same}
+use lib.ListN.{get_or-map, length-map}
+use lib.Seq.{set_at, get_or_at}
 use Rattle.field.specs.FirstValues.{first_values}
 use Rattle.field.specs.Sum.{sum, total}
 use Rattle.field.specs.Modular.{residue, mul_mod}
@@ -61,18 +57,11 @@ module _ (f : ℕ → ℕ) (l : List ℕ) where
           ∙ rw add-one (sym (append_assoc (first_values i f) (f i ∷ []) (drop (suc i) l)));
     }
 
-    pub filled_all : length l ≤ i → now ≡ first_values (length l) f
-    filled_all g =
-        let all : i ≡ length l = omega (arith, h.within) in
-        h.is
-        ∙ ap (λ (t : List ℕ). first_values i f ++ t) (drop_of_length-le l {i = i} g)
-        ∙ append-nil (first_values i f)
-        ∙ ap (λ (n : ℕ). first_values n f) all
+-- the first i entries are multiplied by the factors at their places
+abbrev pub Multiplied : ℕ → List ℕ → List ℕ → List ℕ → ℕ → Type 0
+Multiplied p factors before list i = Filled (λ k. mul_mod p (get_or before k 0) (get_or factors k 0)) before list i
 
 -- ---- the first n entries of an array, lent and filled
-
-pub part_below : (n k : ℕ) (l : List ℕ) → n < k → length (take n l) < k
-part_below n k l h = rw length-take (omega arith)
 
 module _ (n : ℕ) (f : ℕ → ℕ) (l part : List ℕ) (fits : n ≤ length l) (e : part ≡ first_values (length (take n l)) f) where
   part_is : part ≡ first_values n f
@@ -80,9 +69,6 @@ module _ (n : ℕ) (f : ℕ → ℕ) (l part : List ℕ) (fits : n ≤ length l)
 
   pub filled_part_is : take n (part ++ drop n l) ≡ first_values n f
   filled_part_is = take_at part (drop n l) n (ap length part_is ∙ length_first n f) ∙ part_is
-
-  pub filled_part_fits : n ≤ length (part ++ drop n l)
-  filled_part_fits = omega (arith, length-append part (drop n l), ap length part_is, length_first n f)
 
 -- ---- powers modulo p
 

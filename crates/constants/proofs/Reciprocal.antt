@@ -1,10 +1,7 @@
 -- A remainder by two products: with m the floor of 65536 / p, the floor of x m / 65536 is the quotient of x by p or one less, for every x below 65536.
 -- Assumes nothing.
-use mathlib.Core.Path.{◌≡◌, sym, ◌∙◌}
-use Prim.Native.Nat.{ℕ, ◌+◌, ◌*◌, ◌/◌, ◌≤◌, ◌<◌}
-use native.Mathlib.Omega.{arith}
-use native.Mathlib.Nat.{mod-add-div', mod-lt, mod-eq_of_lt, mul-le-mul_left, mul-le-mul_right}
-use lib.Dec.{lit<}
+use Rattle.std.proofs.Common.{◌≡◌, sym, ◌∙◌, ℕ, ◌+◌, ◌*◌, ◌/◌, ◌≤◌, ◌<◌, arith, mod-lt, mod-eq_of_lt, mul-le-mul_left, mul-le-mul_right, lit<}
+use native.Mathlib.Nat.{mod-add-div'}
 use Rattle.field.specs.Modular.{residue}
 use Rattle.field.proofs.Modular.{mod_of, residue_is}
 

@@ -1,13 +1,6 @@
 -- Counting chain by chain: the sums over the higher operands, and in the end what they are in the definition's terms.
 -- Assumes nothing.
-use mathlib.Core.Path.{◌≡◌, refl, sym, ◌∙◌}
-use mathlib.Core.Bool.{Bool, true, false}
-use mathlib.Core.List.{List, [], ◌∷◌, ◌++◌}
-use Prim.Native.Nat.{ℕ, suc, ◌+◌, ◌*◌, ◌≤◌, ◌<◌, zero-le}
-use native.Mathlib.Numerals.{add-one}
-use native.Mathlib.Omega.{arith}
-use lib.Dec.{eqb}
-use lib.ListN.{length, get_or, replicate, length-replicate, get_or-replicate}
+use Rattle.std.proofs.Common.{◌≡◌, refl, sym, ◌∙◌, Bool, true, false, List, [], ◌∷◌, ◌++◌, ℕ, suc, ◌+◌, ◌*◌, ◌≤◌, ◌<◌, zero-le, add-one, arith, eqb, length, get_or}
 use Rattle.answer.specs.Outcome.{accepted}
 use Rattle.field.specs.Bit.{bit}
 use Rattle.field.specs.Member.{member}
@@ -20,32 +13,14 @@ use Rattle.circuit.specs.Table.{most_gates}
 use Rattle.circuit.specs.Used.{only_if, pick, used_numbers, used}
 use Rattle.circuit.proofs.Bounds.{counted_below}
 use Rattle.records.specs.Read.{gates_read, gates_in}
-use Rattle.counter.specs.Chains.{Walkable, Walked, ChainsCountable}
-use Rattle.counter.specs.Counts.{Ready, CountsOf}
-use Rattle.counter.specs.Gates.{gates_of, gate_at, Countable}
+use Rattle.counter.specs.Chains.{Walked, ChainsCountable}
+use Rattle.counter.specs.Counts.{CountsOf}
+use Rattle.counter.specs.Gates.{gates_of, gate_at}
 use Rattle.counter.specs.Marks.{AtMost}
 use Rattle.counter.specs.Pairs.{lowers, different}
 use Rattle.counter.specs.declared.Counts.{Counts}
 use Rattle.counter.proofs.Gates.{countable, operands_lower}
 use Rattle.counter.proofs.Pairs.{sum_to, pairs_below, squares_below, Below, pairs_grouped, squares_grouped, muls_split}
-
--- ---- lists of zeros
-
-pub ready : {table : List ℕ} {count : ℕ} (n : ℕ) → Countable table count → count ≤ n
-    → Ready table count (replicate n 0) (replicate n 0) (replicate n 0)
-ready {table} {count} n records room =
-    let enough : count ≤ length (replicate {A = ℕ} n 0) = rw length-replicate room in
-    record {
-      records = records;
-      room_marks = enough;
-      room_starts = enough;
-      room_next = enough;
-      clear_marks = cleared;
-      clear_starts = cleared;
-    }
-  where
-    cleared : AtMost 0 (replicate n 0)
-    cleared i l = rw (get_or-replicate {A = ℕ} n i 0 0 (rw (length-replicate {A = ℕ} n 0) at l)) zero-le
 
 -- ---- the sums, as counts of gates
 
@@ -103,16 +78,6 @@ module _ {table : List ℕ} {count : ℕ} {starts next marks₀ : List ℕ} (p :
       -- a chain starts at a gate
       pub start_below : get_or starts h 0 < most_gates
       start_below = omega (arith, (p.linked h among).0)
-
-      pub walkable : Walkable table h (get_or starts h 0) next marks
-      walkable = record {
-        among = among;
-        begins = (p.linked h among).0;
-        room_next = omega arith;
-        room_marks = omega arith;
-        chained = (p.linked h among).1;
-        old = c.old;
-      }
 
       -- n different lower operands go with h
       pub counting_again : (marks' : List ℕ) (n : ℕ) → length marks' ≡ length marks → n ≡ different (lowers h (used (gates_of table)))

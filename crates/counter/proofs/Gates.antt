@@ -1,14 +1,7 @@
 -- The gates of a table by their numbers: gate number k is what record number k says, and reads only lower gates. By induction on the records.
 -- Assumes nothing.
-use mathlib.Core.Path.{◌≡◌, refl, sym, ap, ◌∙◌}
-use mathlib.Core.Bool.{true, false≢true}
-use mathlib.Core.List.{List}
-use Prim.Native.Nat.{ℕ, zero, suc, ◌+◌, ◌*◌, ◌≤◌, ◌<◌}
-use native.Mathlib.Nat.{add-zero, zero-add}
-use native.Mathlib.Numerals.{add-one}
-use native.Mathlib.Omega.{arith}
-use lib.ListN.{length, drop}
-use lib.Seq.{get_or-drop}
+use Rattle.std.proofs.Common.{◌≡◌, refl, sym, ap, ◌∙◌, true, List, ℕ, zero, suc, ◌+◌, ◌*◌, ◌≤◌, ◌<◌, add-zero, zero-add, add-one, arith, length, drop, get_or-drop}
+use mathlib.Core.Bool.{false≢true}
 use Rattle.answer.specs.Outcome.{Answer, refused, accepted}
 use Rattle.circuit.specs.Bytes.{byte, u16_at}
 use Rattle.circuit.specs.Count.{is_mul}

@@ -1,15 +1,7 @@
 -- Marking the used gates from the last one down: once the gates from number k on are visited, the marks stand at what they need.
 -- A visit enters marks at just the numbers that the definition of `needed` puts before the others.
 -- Assumes nothing.
-use mathlib.Core.Path.{◌≡◌, refl, ◌∙◌}
-use mathlib.Core.Bool.{Bool, true, false, ◌||◌}
-use mathlib.Core.List.{List, [], ◌∷◌, ◌++◌}
-use Prim.Native.Nat.{ℕ, suc, ◌-◌, ◌≤◌, ◌<◌}
-use native.Mathlib.Omega.{arith}
-use borrow.Author.Tests.{eq-eqb, ne_eqb}
-use lib.Dec.{eqb}
-use lib.ListN.{length, get_or, set, drop, length-set, drop_of_length-le}
-use lib.Seq.{drop-cons}
+use Rattle.std.proofs.Common.{◌≡◌, refl, ◌∙◌, Bool, true, false, ◌||◌, List, [], ◌∷◌, ◌++◌, ℕ, suc, ◌-◌, ◌≤◌, ◌<◌, arith, eq-eqb, ne_eqb, eqb, length, get_or, set, drop, length-set, drop_of_length-le, drop-cons}
 use Rattle.field.specs.Member.{member}
 use Rattle.field.proofs.Member.{member_append}
 use Rattle.circuit.specs.Gate.{Gate, Left}
@@ -19,7 +11,7 @@ use Rattle.circuit.proofs.LastUse.{or_else}
 use Rattle.records.specs.Operands.{entered}
 use Rattle.records.proofs.Entered.{length_entered, entered_at}
 use Rattle.counter.specs.Gates.{gates_of, gate_at, Countable}
-use Rattle.counter.specs.Marks.{Marks, AtMost, UsedMarked}
+use Rattle.counter.specs.Marks.{Marks, AtMost}
 
 -- ---- a value entered at places
 
@@ -87,7 +79,3 @@ module _ {table : List ℕ} {count : ℕ} (records : Countable table count) wher
         → Marking (gates_of table) count size (entered 1 (only_if (eqb (get_or marks (k - 1) 0) 1) (operands (gate_at (gates_of table) (k - 1)))) marks) (k - 1)
     marking_again room some =
         let one : k ≡ suc (k - 1) = omega arith in turn (gates_of table) count size marks (k - 1) records.many room (rw one at m)
-
-    pub marking_ends : k ≤ 0 → UsedMarked (gates_of table) marks
-    marking_ends l =
-        let none : k ≡ 0 = omega arith in record { used = rw (none, ← records.many) at m.needs; low = m.low }

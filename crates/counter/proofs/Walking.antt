@@ -1,14 +1,7 @@
 -- Walking along the chain of a higher operand: what was seen is counted and stamped, and the rest of the chain, turned over onto it, is the whole.
 -- Assumes nothing.
-use mathlib.Core.Path.{◌≡◌, refl, ap, ◌∙◌}
-use mathlib.Core.Logic.{◌≢◌}
-use mathlib.Core.Bool.{not}
-use mathlib.Core.List.{List, [], ◌∷◌, reverse_aux}
-use Prim.Native.Nat.{ℕ, ◌+◌, ◌≤◌, ◌<◌}
-use native.Mathlib.Omega.{arith}
-use native.Mathlib.Nat.{le_refl}
-use lib.Dec.{eqb}
-use lib.ListN.{length, get_or, set}
+use Rattle.std.proofs.Common.{◌≡◌, refl, ap, ◌∙◌, ◌≢◌, not, List, [], ◌∷◌, ℕ, ◌+◌, ◌≤◌, ◌<◌, arith, le_refl, eqb, length, get_or, set}
+use mathlib.Core.List.{reverse_aux}
 use Rattle.field.specs.Bit.{bit}
 use Rattle.field.proofs.Bit.{bit_below}
 use Rattle.circuit.specs.Gate.{Gate}

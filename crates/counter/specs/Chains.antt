@@ -1,6 +1,6 @@
 -- Chains of used MULs with the same higher operand: how they are linked, and the walk along one, which stamps the lower operands.
-use Rattle.std.specs.Prelude.{◌≡◌, Bool, ◌&&◌, ℕ, ◌+◌, ◌≤◌, ◌<◌, eqb, length, get_or}
-use mathlib.Core.List.{List, [], ◌∷◌, reverse_aux}
+use Rattle.std.specs.Prelude.{◌≡◌, Bool, ◌&&◌, ℕ, ◌+◌, ◌≤◌, ◌<◌, List, [], ◌∷◌, eqb, length, get_or}
+use mathlib.Core.List.{reverse_aux}
 use Rattle.circuit.specs.Count.{is_mul}
 use Rattle.circuit.specs.Gate.{Gate}
 use Rattle.circuit.specs.Used.{only_if, used}

@@ -18,10 +18,3 @@ pub record Countable (table : List ℕ) (count : ℕ) : Type 0 where
   pub many : length (gates_of table) ≡ count
   pub some : 1 ≤ count
   pub most : count ≤ most_gates
-
--- the most gates of a small table, and of one of middle size, for which lists are quickly cleared
-abbrev pub small_table : ℕ
-small_table = 256
-
-abbrev pub middle_table : ℕ
-middle_table = 2048

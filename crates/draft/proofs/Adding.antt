@@ -2,11 +2,12 @@
 -- What is written is a draft, and the conditions that are left make it the draft of all, by any tests of order digits.
 -- Assumes nothing.
 use mathlib.Core.Path.{◌≡◌, refl, sym, ap, ap₂, ◌∙◌}
-use mathlib.Core.List.{List, [], ◌∷◌, ◌++◌}
+use mathlib.Core.List.{List, [], ◌∷◌, ◌++◌, map, map-append}
 use Prim.Native.Nat.{ℕ, ◌+◌, ◌≤◌, ◌<◌, zero-le}
 use native.Mathlib.Omega.{arith}
 use native.Mathlib.Numerals.{add-one}
 use lib.ListN.{length, take, drop, set, length-append, drop_of_length-le}
+use lib.Seq.{take-suc-set}
 use Rattle.circuit.specs.Segment as segment
 use Rattle.comparison.specs.Condition.{Condition, unweighed}
 use Rattle.comparison.specs.Tests.{Tests}
@@ -16,51 +17,46 @@ use Rattle.query.specs.Whole.{Draft, begin, add, add_all, draft_of}
 use Rattle.query.proofs.Whole.{all_more}
 use Rattle.card.specs.declared.Record.{Record}
 use Rattle.card.specs.Parts.{record_is}
-use Rattle.card.specs.Conditions.{Taken, IsRecord}
-use Rattle.card.proofs.ReadAs.{slots_none, slots_next}
+use Rattle.card.specs.Conditions.{IsRecord}
+use Rattle.writer.specs.Nodes.{node_is}
+use Rattle.writer.specs.declared.Node.{Node}
 use Rattle.writer.specs.declared.Pen.{Pen}
-use Rattle.tree.specs.Factors.{nodes}
 use Rattle.writer.specs.Pen.{fresh, Wrote, Moved}
-use Rattle.tree.proofs.Factors.{added}
 use Rattle.writer.proofs.Writing.{none, same_gates, then}
 
 -- k conditions are written
-pub record Adds (t : Tests) (p : ℕ) (cs : List Condition) (table₀ table : List ℕ) (pen : Pen) (slot k : ℕ) (gates depths : List ℕ) : Type 0 where
+pub record Adds (t : Tests) (p : ℕ) (cs : List Condition) (table₀ table : List ℕ) (pen : Pen) (k : ℕ) (nodes : List Node) : Type 0 where
   -- the draft that is written
   pub draft : Draft
   pub wrote : Wrote table₀ fresh draft.gates table pen
   pub counts : (pen.products ≤ pen.next) × (pen.squares ≤ pen.next)
-  pub outputs : nodes (take k gates) (take k depths) ≡ draft.outputs
-  -- the slots that are taken
-  pub slots : Taken cs k slot
+  pub outputs : map node_is (take k nodes) ≡ draft.outputs
   -- the conditions that are left make it the draft of all
   pub all : add_all t p draft (drop k cs) ≡ draft_of t p cs
 
-pub begins : (t : Tests) (p : ℕ) (cs : List Condition) (table gates depths : List ℕ) → Adds t p cs table table fresh 0 0 gates depths
-unfolding nodes
-begins t p cs table gates depths = record {
+pub begins : (t : Tests) (p : ℕ) (cs : List Condition) (table : List ℕ) (nodes : List Node) → Adds t p cs table table fresh 0 nodes
+begins t p cs table nodes = record {
   draft = begin;
   wrote = none;
   counts = (zero-le, zero-le);
   outputs = refl;
-  slots = slots_none cs;
   all = refl;
 }
 
 -- nothing is left
-pub ends : (t : Tests) (p : ℕ) (cs : List Condition) (table₀ table : List ℕ) (pen : Pen) (slot k : ℕ) (gates depths : List ℕ) → length cs ≤ k
-    → Adds t p cs table₀ table pen slot k gates depths
+pub ends : (t : Tests) (p : ℕ) (cs : List Condition) (table₀ table : List ℕ) (pen : Pen) (k : ℕ) (nodes : List Node) → length cs ≤ k
+    → Adds t p cs table₀ table pen k nodes
     → Wrote table₀ fresh (draft_of t p cs).gates table pen
     × Moved fresh (length (draft_of t p cs).gates) pen
-    × (nodes (take k gates) (take k depths) ≡ (draft_of t p cs).outputs)
+    × (map node_is (take k nodes) ≡ (draft_of t p cs).outputs)
 unfolding add_all
-ends t p cs table₀ table pen slot k gates depths h a =
+ends t p cs table₀ table pen k nodes h a =
     let whole : a.draft ≡ draft_of t p cs = ap (add_all t p a.draft) (sym (drop_of_length-le cs h)) ∙ a.all in
     let w = same_gates (ap (λ (d : Draft). d.gates) whole) a.wrote in
     (w, (w.number, a.counts.0, a.counts.1), a.outputs ∙ ap (λ (d : Draft). d.outputs) whole)
 
-module _ (t : Tests) (p : ℕ) (cs : List Condition) (table₀ table : List ℕ) (pen : Pen) (slot k : ℕ) (gates depths : List ℕ)
-    (a : Adds t p cs table₀ table pen slot k gates depths) (r : Record) (is : IsRecord cs k r) where
+module _ (t : Tests) (p : ℕ) (cs : List Condition) (table₀ table : List ℕ) (pen : Pen) (k : ℕ) (nodes : List Node)
+    (a : Adds t p cs table₀ table pen k nodes) (r : Record) (is : IsRecord cs k r) where
   -- the condition at hand, and those after it
   abbrev c : Condition
   c = record_is r
@@ -99,17 +95,17 @@ module _ (t : Tests) (p : ℕ) (cs : List Condition) (table₀ table : List ℕ)
       )
 
   -- one condition more
-  pub adds : (table' : List ℕ) (pen' : Pen) (g d : ℕ) → Wrote table pen own.gates table' pen' → Moved pen (length own.gates) pen'
-      → ◌≡◌ {A = segment.Node} (record { gate = g; depth = d }) own.output → k < length gates → k < length depths
-      → Adds t p cs table₀ table' pen' (slot + c.digits) (k + 1) (set gates k g) (set depths k d)
-  adds table' pen' g d w m o lg ld = record {
+  pub adds : (table' : List ℕ) (pen' : Pen) (node : Node) → Wrote table pen own.gates table' pen' → Moved pen (length own.gates) pen'
+      → node_is node ≡ own.output → k < length nodes
+      → Adds t p cs table₀ table' pen' (k + 1) (set nodes k node)
+  adds table' pen' node w m o l = record {
     draft = longer;
     wrote = then a.wrote (same_gates (ap (λ (s : segment.Segment). s.gates) own_is) w);
     counts = (m.1, m.2);
     outputs =
-        added (k + 1) k g d gates depths (add-one k) (omega arith) (omega arith)
-        ∙ ap₂ (λ (before : List segment.Node) (node : segment.Node). before ++ (node ∷ [])) a.outputs
+        ap (map node_is) (ap (λ (n : ℕ). take n (set nodes k node)) (add-one k) ∙ take-suc-set nodes k node l)
+        ∙ map-append node_is (take k nodes) (node ∷ [])
+        ∙ ap₂ (λ (before : List segment.Node) (last : segment.Node). before ++ (last ∷ [])) a.outputs
         (o ∙ ap (λ (s : segment.Segment). s.output) own_is);
-    slots = slots_next cs k slot c a.slots is;
     all = all_after;
   }

@@ -1,4 +1,4 @@
--- The prime of a card that was read: a modulus, one for which any list to work in is long enough, and above every weight of a score card.
+-- The prime of a card that was read: a modulus, and above every weight of a score card.
 -- Assumes nothing.
 use mathlib.Core.Path.{◌≡◌, sym, ap, subst, ◌∙◌}
 use mathlib.Core.List.{List}
@@ -10,28 +10,21 @@ use Rattle.circuit.specs.Constant.{code, signed, bits_of}
 use Rattle.circuit.specs.Every.{Every}
 use Rattle.circuit.proofs.Constant.{bits_code}
 use Rattle.circuit.proofs.Every.{every_drop}
-use Rattle.comparison.specs.OrderDigit.{power_count}
 use Rattle.query.specs.Card.{AsksScore, total_weight}
 use Rattle.query.specs.Form.{Score, question_of}
 use Rattle.query.proofs.CardFacts.{accepted_card}
 use Rattle.query.proofs.Score.{each_below}
-use Rattle.constants.specs.Constants.{most_constants}
-use Rattle.powers.specs.Powers.{most_powers}
 use Rattle.card.specs.declared.CardHead.{CardHead}
 use Rattle.card.specs.Conditions.{ReadAs, conditions_of, IsWeight}
 use Rattle.card.specs.Parts.{form_is, Summary}
 use Rattle.card.proofs.ReadAs.{known_as}
 use Rattle.writer.specs.Modulus.{Modulus}
 
-abbrev pub Usable : ℕ → Type 0
-Usable p = Modulus p × (p / 2 + 1 ≤ most_constants) × (power_count p < most_powers)
-
-pub prime_usable : (bytes : List ℕ) (head : CardHead) → ReadAs bytes head → Usable head.prime
+pub prime_usable : (bytes : List ℕ) (head : CardHead) → ReadAs bytes head → Modulus head.prime
 prime_usable bytes head e =
     let all = known_as bytes head e in
     let known = (accepted_card bytes all.card all.reads).prime in
-    subst Usable (sym (ap (λ (s : Summary). s.prime) all.says))
-    ((known.low, known.odd, omega (arith, known.high)), omega (arith, known.high), omega (arith, known.high))
+    subst Modulus (sym (ap (λ (s : Summary). s.prime) all.says)) (known.low, known.odd, omega (arith, known.high))
 
 -- a weight of a score card is below it, and so is read back from its sixteen bits
 pub weight_read : (bytes : List ℕ) (head : CardHead) (k w : ℕ) → ReadAs bytes head → question_of (form_is head.form) ≡ Score → IsWeight (conditions_of bytes) k w
@@ -44,6 +37,6 @@ weight_read bytes head k w e score is =
     let below : total_weight (conditions_of bytes) < head.prime = omega (arith, ap total_weight all.conditions, p, known.weights asks) in
     let each = every_drop (λ (v : ℕ). v < head.prime) k _ (each_below head.prime (conditions_of bytes) below) in
     let here : w < head.prime = (subst (Every (λ (v : ℕ). v < head.prime)) is each).0 in
-    let modulus = (prime_usable bytes head e).0 in
+    let modulus = prime_usable bytes head e in
     ap (λ (v : ℕ). signed (bits_of head.prime v)) (residue_small head.prime w here)
     ∙ (bits_code head.prime w modulus.1 (omega (arith, modulus)) here).1

@@ -3,9 +3,9 @@
 -- Assumes nothing.
 use mathlib.Core.Path.{◌≡◌, refl, sym, ap, ap₂, ◌∙◌}
 use mathlib.Core.List.{List, [], ◌∷◌, ◌++◌, map}
-use Prim.Native.Nat.{ℕ, suc, ◌+◌, ◌*◌, ◌≤◌, ◌<◌, max}
+use Prim.Native.Nat.{ℕ, zero, suc, ◌+◌, ◌*◌, ◌≤◌, ◌<◌, max}
 use native.Mathlib.Omega.{arith}
-use lib.ListN.{length, drop, drop_of_length-le, length-map}
+use lib.ListN.{length, get_or, drop, drop_of_length-le, length-map}
 use Rattle.circuit.specs.Constant.{code}
 use Rattle.circuit.specs.Gate.{Gate, Scale, Add}
 use Rattle.circuit.specs.Segment as segment
@@ -13,6 +13,7 @@ use Rattle.circuit.specs.Sums.{later_sum, sum_from, sum_gate, largest}
 use Rattle.comparison.specs.Condition.{Condition}
 use Rattle.query.specs.Score.{weights_of, scaled_outputs, score_sum}
 use Rattle.card.specs.Conditions.{IsWeight}
+use Rattle.writer.specs.declared.Node.{Node}
 use Rattle.writer.specs.declared.Pen.{Pen}
 use Rattle.writer.specs.declared.Written.{Written}
 use Rattle.writer.specs.Nodes.{node_is}
@@ -107,3 +108,13 @@ module _ (p : ℕ) (cs : List Condition) (outputs : List segment.Node) where
         let gate : sum.node.gate ≡ sum_gate pen.next (length outputs) = omega (arith, a.place, a.turns, wrote.number) in
         let deep : sum.node.depth ≡ largest (map level outputs) = omega (arith, first, a.deepest, deeper 0 w f is at, ap (λ (fs : List segment.Node). largest (map level fs)) no_output) in
         (same_gates (sym split) (then wrote later), ap₂ (λ (g d : ℕ). node_is (record { gate = g; depth = d })) gate deep)
+
+-- the output at a place, and those after it
+pub output_at : (nodes : List Node) (k : ℕ) → k < length nodes
+    → drop k (map node_is nodes) ≡ node_is (get_or nodes k (record { gate = 0; depth = 0 })) ∷ drop (k + 1) (map node_is nodes)
+output_at [] k l = absurd (omega arith)
+output_at (n ∷ ns) zero l = refl
+output_at (n ∷ ns) (suc k) l = output_at ns k (omega arith) ∙ ap (λ (j : ℕ). node_is (get_or ns k (record { gate = 0; depth = 0 })) ∷ drop j (map node_is (n ∷ ns))) next
+  where
+    next : suc (k + 1) ≡ suc k + 1
+    next = omega arith

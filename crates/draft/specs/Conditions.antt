@@ -1,12 +1,14 @@
 -- The conditions of a card as they are written one after the other (document 01, "Whole card": "Conditions in order").
-use Rattle.std.specs.Prelude.{◌≡◌, Bool, true, false, ◌||◌, List, [], ◌∷◌, ℕ, ◌≤◌, length}
+use Rattle.std.specs.Prelude.{◌≡◌, Bool, true, false, ◌||◌, List, [], ◌∷◌, ℕ, length}
 use Rattle.comparison.specs.Condition.{Condition}
 use Rattle.comparison.specs.Relation.{is_order}
 use Rattle.step.specs.Digit.{tests_by, Suits}
 use Rattle.powers.specs.Prepared.{Prepared}
+use Rattle.powers.specs.declared.OrderTables.{OrderTables}
 use Rattle.query.specs.Whole.{Draft, draft_of}
 use Rattle.card.specs.declared.CardHead.{CardHead}
-use Rattle.card.specs.Conditions.{ReadAs, conditions_of}
+use Rattle.card.specs.Conditions.{conditions_of}
+use Rattle.writer.specs.declared.Node.{Node}
 use Rattle.writer.specs.Pen.{Room, fresh}
 
 -- the draft of conditions by a step size, or by none, which 0 stands for
@@ -19,13 +21,13 @@ any_order [] = false
 any_order (c ∷ cs) = is_order c.relation || any_order cs
 
 -- what order digits go by is lent, where a condition asks for it
-abbrev pub Ready : ℕ → List Condition → List ℕ → List ℕ → Type 0
-Ready p cs constants powers = any_order cs ≡ true → Prepared p constants powers
+abbrev pub Ready : ℕ → List Condition → OrderTables → Type 0
+Ready p cs tables = any_order cs ≡ true → Prepared p tables
 
--- a card that was read, a step size of its prime or none, what order digits go by, room for the conditions in a table, and for the outputs in two lists
-pub record Writable (card : List ℕ) (head : CardHead) (step : ℕ) (table constants powers gates depths : List ℕ) : Type 0 where
-  pub reads : ReadAs card head
+-- of what a card says, a step size of its prime or none, room for the conditions in a table, what order digits go by, and an entry for
+-- the output of each condition
+pub record Writable (card : List ℕ) (head : CardHead) (step : ℕ) (table : List ℕ) (tables : OrderTables) (nodes : List Node) : Type 0 where
   pub suits : Suits head.prime step
   pub room : Room table fresh (length (drafted head.prime step (conditions_of card)).gates)
-  pub ready : Ready head.prime (conditions_of card) constants powers
-  pub outputs : (head.count ≤ length gates) × (head.count ≤ length depths)
+  pub ready : Ready head.prime (conditions_of card) tables
+  pub outputs : length nodes ≡ head.count

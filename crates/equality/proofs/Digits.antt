@@ -1,14 +1,9 @@
 -- One digit of an equality condition, and what remains of its digits and of their outputs after it.
 -- Assumes nothing.
-use mathlib.Core.Path.{◌≡◌, sym, ap, ap₂, subst, ◌∙◌}
-use mathlib.Core.Bool.{false}
-use mathlib.Core.List.{List, [], ◌∷◌, ◌++◌, append_assoc, append-nil}
-use Prim.Native.Nat.{ℕ, suc, ◌+◌, ◌-◌, ◌≤◌, ◌<◌}
-use native.Mathlib.Omega.{arith}
-use native.Mathlib.Numerals.{add-one}
-use lib.ListN.{length, take, set, length-append}
+use Rattle.std.proofs.Common.{◌≡◌, sym, ap, ap₂, subst, ◌∙◌, false, List, [], ◌∷◌, ◌++◌, map, append_assoc, append-nil, ℕ, suc, ◌+◌, ◌-◌, ◌≤◌, ◌<◌, add-one, length, take, set, length-append, take-suc-set, arith}
+use Rattle.std.proofs.lemmas.List.{map-append, take_all}
 use Rattle.circuit.specs.Gate.{Gate, Left, Right}
-use Rattle.circuit.specs.Segment.{Node}
+use Rattle.circuit.specs.Segment as segment
 use Rattle.circuit.proofs.Records.{one_less}
 use Rattle.comparison.specs.Bits.{bits}
 use Rattle.comparison.specs.Difference.{minus, difference, z_gate}
@@ -18,11 +13,12 @@ use Rattle.comparison.specs.Relation.{Equal}
 use Rattle.comparison.specs.Writing.{zero_of, equality_factors}
 use Rattle.comparison.proofs.Digits.{digits_cons}
 use Rattle.comparison.proofs.EqualityDigit.{zero_length}
+use Rattle.writer.specs.declared.Node.{Node}
 use Rattle.writer.specs.declared.Pen.{Pen}
 use Rattle.writer.specs.declared.Slots.{Slots}
-use Rattle.tree.specs.Factors.{nodes}
+use Rattle.writer.specs.Nodes.{node_is}
 use Rattle.writer.specs.Pen.{Wrote}
-use Rattle.tree.proofs.Factors.{added}
+use Rattle.tree.proofs.Factors.{first}
 use Rattle.writer.proofs.Writing.{then}
 use Rattle.writer.specs.Remains.{Remains}
 use Rattle.equality.specs.Slots.{equality_condition}
@@ -73,7 +69,7 @@ module _ (p : ℕ) (slots : Slots) (k n j : ℕ) (l : j < n) where
 
   -- ---- outputs
 
-  abbrev later_outputs : List Node
+  abbrev later_outputs : List segment.Node
   later_outputs = equality_factors p k (n - (j + 1)) (j + 1)
 
   outputs_cons : equality_factors p k (n - j) j ≡ zero_of p k j ∷ later_outputs
@@ -81,15 +77,16 @@ module _ (p : ℕ) (slots : Slots) (k n j : ℕ) (l : j < n) where
   outputs_cons = rw (one_less n j l, add-one j)
 
   -- a digit's output goes to its place
-  pub outputs_next : (gates depths : List ℕ) (node : Node) {all : List Node} → n ≤ length gates → n ≤ length depths → node ≡ zero_of p k j
-      → nodes (take j gates) (take j depths) ++ equality_factors p k (n - j) j ≡ all
-      → nodes (take (j + 1) (set gates j node.gate)) (take (j + 1) (set depths j node.depth)) ++ later_outputs ≡ all
-  outputs_next gates depths node lg ld e h =
-      let before = nodes (take j gates) (take j depths) in
-      ap (λ (fs : List Node). fs ++ later_outputs) (added (j + 1) j node.gate node.depth gates depths (add-one j) (omega arith) (omega arith))
-      ∙ append_assoc before (node ∷ []) later_outputs
-      ∙ ap (λ (f : Node). before ++ (f ∷ later_outputs)) e
-      ∙ ap (λ (fs : List Node). before ++ fs) (sym outputs_cons)
+  pub outputs_next : (nodes : List Node) (node : Node) {all : List segment.Node} → n ≤ length nodes → node_is node ≡ zero_of p k j
+      → first j nodes ++ equality_factors p k (n - j) j ≡ all → first (j + 1) (set nodes j node) ++ later_outputs ≡ all
+  outputs_next nodes node room e h =
+      let before = first j nodes in
+      let placed : first (j + 1) (set nodes j node) ≡ before ++ (node_is node ∷ [])
+      = rw (add-one j) (ap (map node_is) (take-suc-set nodes j node (omega arith)) ∙ map-append node_is (take j nodes) (node ∷ [])) in
+      ap (λ (fs : List segment.Node). fs ++ later_outputs) placed
+      ∙ append_assoc before (node_is node ∷ []) later_outputs
+      ∙ ap (λ (f : segment.Node). before ++ (f ∷ later_outputs)) e
+      ∙ ap (λ (fs : List segment.Node). before ++ fs) (sym outputs_cons)
       ∙ h
 
 -- no digit is left
@@ -97,10 +94,9 @@ pub no_digits : (p : ℕ) (slots : Slots) (k n j : ℕ) → n ≤ j → equality
 unfolding digits_from
 no_digits p slots k n j l = let e : n - j ≡ 0 = omega arith in rw e
 
-pub no_outputs : (p : ℕ) (slots : Slots) (k n j : ℕ) (gates depths : List ℕ) {all : List Node} → j ≡ n
-    → nodes (take j gates) (take j depths) ++ equality_factors p k (n - j) j ≡ all
-    → nodes (take n gates) (take n depths) ≡ all
+pub no_outputs : (p k n j : ℕ) (nodes : List Node) {all : List segment.Node} → j ≡ n → length nodes ≡ n
+    → first j nodes ++ equality_factors p k (n - j) j ≡ all → map node_is nodes ≡ all
 unfolding equality_factors
-no_outputs p slots k n j gates depths e h =
+no_outputs p k n j nodes e long h =
     let none : n - j ≡ 0 = omega arith in
-    ap (λ (i : ℕ). nodes (take i gates) (take i depths)) (sym e) ∙ sym (append-nil (nodes (take j gates) (take j depths))) ∙ (rw none at h)
+    ap (map node_is) (sym (take_all j nodes (omega arith))) ∙ sym (append-nil (first j nodes)) ∙ (rw none at h)

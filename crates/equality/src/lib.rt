@@ -1,7 +1,7 @@
 // Equality conditions: the zero test of each digit's difference, and the product tree over the digits.
 #![tactic(auto)]
 
-ghost use Rattle.std.specs.Prelude.{◌≡◌, ◌++◌, ◌+◌, ◌-◌, ◌*◌, ◌%◌, ◌^◌, ◌≤◌, ◌<◌, length, take};
+ghost use Rattle.std.specs.Prelude.{◌≡◌, ◌++◌, ◌+◌, ◌-◌, ◌*◌, ◌%◌, ◌^◌, ◌≤◌, ◌<◌, length, map};
 ghost use Rattle.field.specs.Bit.{bit};
 ghost use Rattle.field.specs.Logarithm.{clog};
 ghost use Rattle.digits.specs.Number.{most_digits};
@@ -15,18 +15,17 @@ ghost use Rattle.comparison.specs.EqualityDigit.{zero_chain, zero_gates};
 ghost use Rattle.comparison.specs.Relation.{Equal};
 ghost use Rattle.comparison.specs.Tests.{digit_depth, equality_test};
 ghost use Rattle.comparison.specs.Writing.{equality_factors, equality_segment};
-ghost use Rattle.tree.specs.Factors.{nodes};
-ghost use Rattle.writer.specs.Modulus.{Modulus};
 ghost use Rattle.writer.specs.Nodes.{node_is};
 ghost use Rattle.writer.specs.Pen.{Wrote, Room, Moved};
 ghost use Rattle.writer.specs.Remains.{Remains};
 ghost use Rattle.equality.specs.Collecting.{product_at, collected_by, later_bits};
 ghost use Rattle.equality.specs.Slots.{equality_condition};
 
-use writer::{Node, Pen, Slots, Written};
+use arithmetic::Modulus;
+use writer::{Gate, Node, Pen, Slots, Written};
 
 // The power at the first set bit of t, and the bits of t above it.
-#[derive(Clone, Copy)]
+#[derive(Clone, Copy, Debug, PartialEq, Eq)]
 struct Squared {
     power: Written,
     rest: u16,
@@ -95,77 +94,73 @@ fn put_collected(table: &mut [u8], first: Written, later: u16) -> Written
     let gate = collected.pen.next;
     let depth = collected.node.depth;
     Written {
-        pen: writer::put_flip(table, collected.pen, collected.node.gate),
+        pen: writer::put_gate(table, collected.pen, Gate::Flip(collected.node.gate)),
         node: Node { gate, depth },
     }
 }
 
 // 1 - z^(p-1) of the gate z.
-pub fn put_zero_test(table: &mut [u8], pen: Pen, z: u16, p: u16) -> Written
-    requires { Room table.old pen (equality_test p).count × Modulus p }
-    ensures wrote { Wrote table.old pen (zero_chain (bits (p - 1)) pen.next z) table.new result.pen }
-    ensures moves { Moved pen (equality_test p).count result.pen }
-    ensures deepens { (result.node.gate + 1 ≡ result.pen.next) × (result.node.depth ≡ digit_depth p) }
+pub fn put_zero_test(table: &mut [u8], pen: Pen, z: u16, modulus: Modulus) -> Written
+    requires { Room table.old pen (equality_test modulus.p).count }
+    ensures wrote { Wrote table.old pen (zero_chain (bits (modulus.p - 1)) pen.next z) table.new result.pen }
+    ensures moves { Moved pen (equality_test modulus.p).count result.pen }
+    ensures deepens { (result.node.gate + 1 ≡ result.pen.next) × (result.node.depth ≡ digit_depth modulus.p) }
 {
-    let first = put_squares(table, pen, z, p - 1);
+    let first = put_squares(table, pen, z, modulus.p - 1);
     put_collected(table, first.power, first.rest)
 }
 
 // One digit: the difference and its zero test.
-fn put_equality_digit(table: &mut [u8], pen: Pen, p: u16, left: u16, right: u16) -> Written
-    requires { Room table.old pen (equality_digit_size p) × Modulus p }
-    ensures wrote { Wrote table.old pen (difference Equal left right pen.next ++ zero_gates p pen.next) table.new result.pen }
-    ensures moves { Moved pen (equality_digit_size p) result.pen }
-    ensures deepens { (result.node.gate + 1 ≡ result.pen.next) × (result.node.depth ≡ digit_depth p) }
+fn put_equality_digit(
+    table: &mut [u8],
+    pen: Pen,
+    modulus: Modulus,
+    left: u16,
+    right: u16,
+) -> Written
+    requires { Room table.old pen (equality_digit_size modulus.p) }
+    ensures wrote { Wrote table.old pen (difference Equal left right pen.next ++ zero_gates modulus.p pen.next) table.new result.pen }
+    ensures moves { Moved pen (equality_digit_size modulus.p) result.pen }
+    ensures deepens { (result.node.gate + 1 ≡ result.pen.next) × (result.node.depth ≡ digit_depth modulus.p) }
 {
     let differed = writer::put_difference(table, pen, false, left, right);
-    put_zero_test(table, differed, differed.next - 1, p)
+    put_zero_test(table, differed, differed.next - 1, modulus)
 }
 
-// The digits of an equality condition; their outputs' gates and depths go to gates and depths.
+// The digits of an equality condition; their outputs go to nodes.
 fn put_equality_digits(
     table: &mut [u8],
     pen: Pen,
-    p: u16,
+    modulus: Modulus,
     slots: Slots,
-    gates: &mut [u16],
-    depths: &mut [u16],
+    nodes: &mut [Node],
 ) -> Pen
-    requires room { Room table.old pen (length (equality_digits p (equality_condition slots) pen.next slots.count 0)) }
-    requires modulus { Modulus p × HasSlots most_digits most_digits (equality_condition slots) }
-    requires count_in_bounds { (slots.count ≤ length gates.old) × (slots.count ≤ length depths.old) }
-    ensures wrote { Wrote table.old pen (equality_digits p (equality_condition slots) pen.next slots.count 0) table.new result }
-    ensures moves { Moved pen (length (equality_digits p (equality_condition slots) pen.next slots.count 0)) result }
-    ensures outputs { nodes (take slots.count gates.new) (take slots.count depths.new) ≡ equality_factors p pen.next slots.count 0 }
+    requires room { Room table.old pen (length (equality_digits modulus.p (equality_condition slots) pen.next slots.count 0)) }
+    requires slots { HasSlots most_digits most_digits (equality_condition slots) }
+    requires one_node_each { length nodes.old ≡ slots.count }
+    ensures wrote { Wrote table.old pen (equality_digits modulus.p (equality_condition slots) pen.next slots.count 0) table.new result }
+    ensures moves { Moved pen (length (equality_digits modulus.p (equality_condition slots) pen.next slots.count 0)) result }
+    ensures outputs { map node_is nodes.new ≡ equality_factors modulus.p pen.next slots.count 0 }
 {
     let mut last = pen;
-    let mut j: u16 = 0;
-    while j < slots.count {
-        let digit = put_equality_digit(table, last, p, slots.left + j, slots.right + j);
-        gates[j as usize] = digit.node.gate;
-        depths[j as usize] = digit.node.depth;
+    for j in 0..slots.count {
+        let digit = put_equality_digit(table, last, modulus, slots.left + j, slots.right + j);
+        nodes[usize::from(j)] = digit.node;
         last = digit.pen;
-        j += 1;
     }
     last
 }
 
 // An equality condition but for its last FLIP: its digits, then their product tree.
-pub fn put_equality(table: &mut [u8], pen: Pen, p: u16, slots: Slots) -> Written
-    requires room { Room table.old pen (length (equality_segment p (equality_condition slots) pen.next).gates) }
-    requires modulus { Modulus p × HasSlots most_digits most_digits (equality_condition slots) }
-    ensures wrote { Wrote table.old pen (equality_segment p (equality_condition slots) pen.next).gates table.new result.pen }
-    ensures moves { Moved pen (length (equality_segment p (equality_condition slots) pen.next).gates) result.pen }
-    ensures output { node_is result.node ≡ (equality_segment p (equality_condition slots) pen.next).output }
+pub fn put_equality(table: &mut [u8], pen: Pen, modulus: Modulus, slots: Slots) -> Written
+    requires room { Room table.old pen (length (equality_segment modulus.p (equality_condition slots) pen.next).gates) }
+    requires slots { HasSlots most_digits most_digits (equality_condition slots) }
+    ensures wrote { Wrote table.old pen (equality_segment modulus.p (equality_condition slots) pen.next).gates table.new result.pen }
+    ensures moves { Moved pen (length (equality_segment modulus.p (equality_condition slots) pen.next).gates) result.pen }
+    ensures output { node_is result.node ≡ (equality_segment modulus.p (equality_condition slots) pen.next).output }
 {
-    let mut gates = [0u16; digits::MOST_DIGITS];
-    let mut depths = [0u16; digits::MOST_DIGITS];
-    let written = put_equality_digits(table, pen, p, slots, &mut gates, &mut depths);
-    tree::put_product_tree(
-        table,
-        written,
-        &mut gates,
-        &mut depths,
-        slots.count as usize,
-    )
+    let mut nodes = [Node { gate: 0, depth: 0 }; digits::MOST_DIGITS];
+    let outputs = &mut nodes[..usize::from(slots.count)];
+    let written = put_equality_digits(table, pen, modulus, slots, outputs);
+    tree::put_product_tree(table, written, outputs)
 }

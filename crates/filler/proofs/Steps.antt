@@ -7,7 +7,7 @@ use Rattle.answer.specs.Outcome.{Answer, refused}
 use Rattle.filling.specs.Filling.{Step, unchanged}
 use Rattle.filling.specs.State as filling
 use Rattle.state.specs.State.{state_is}
-use Rattle.state.specs.declared.BuildState.{BuildState}
+use Rattle.state.specs.declared.build.BuildState.{BuildState}
 
 -- the three parts of an outcome
 abbrev pub Told : {A : Type 0} → Answer A → filling.BuildState → List ℕ → Step A → Type 0

@@ -1,13 +1,14 @@
--- The numbers that Forecast adds up: set bits by halving, powers of two by doubling, counts of a condition as the formulas give them,
+-- The numbers that Forecast adds up: set bits and powers of two as the library has them, counts of a condition as the formulas give them,
 -- and how large they can be.
 -- Assumes nothing.
-use mathlib.Core.Path.{◌≡◌, refl, ap, ◌∙◌}
-use mathlib.Core.Bool.{Bool, true, false}
-use Prim.Native.Nat.{ℕ, suc, ◌+◌, ◌*◌, ◌/◌, ◌%◌, ◌^◌, ◌≤◌, ◌<◌}
-use native.Mathlib.Omega.{arith}
-use native.Mathlib.Nat.{add-zero, le_antisymm, lt_of_not-le, mul-le-mul_left}
+use Rattle.std.specs.Int.RustNames.{count_ones}
+use Rattle.std.specs.Int.{IsNextPowerOfTwo}
+use Rattle.std.proofs.Common.{◌≡◌, refl, sym, ap, ◌∙◌, Bool, true, false, ℕ, zero, suc, ◌+◌, ◌*◌, ◌/◌, ◌%◌, ◌^◌, ◌≤◌, ◌<◌, max, arith, add-zero, mul-le-mul_left}
+use Rattle.std.proofs.lemmas.Nat.{pow_pos}
+use lib.Arith.{bin_ind}
+use lib.Count.{ones_step}
 use Rattle.field.specs.Logarithm.{clog}
-use Rattle.field.proofs.Logarithm.{clog_is_ceiling}
+use Rattle.field.proofs.Logarithm.{clog_small, clog_between}
 use Rattle.digits.specs.Number.{most_digits}
 use Rattle.comparison.specs.Bits.{bits, set_bits, ones}
 use Rattle.comparison.specs.Condition.{Condition}
@@ -19,43 +20,38 @@ use Rattle.forecast.specs.declared.Counts.{Counts}
 
 -- ---- set bits
 
-pub ones_none : ones 0 ≡ 0
-unfolding ones
+-- bit 0, and the bits of the half
+ones_half : (t : ℕ) → ones t ≡ t % 2 + ones (t / 2)
+unfolding ones set_bits worth
+ones_half zero = refl
+ones_half (suc t) =
+    let n = suc t in
+    let cons = bits_cons n (omega arith) in
+    let whole : worth (bits n) ≡ n = bits_worth n in
+    rw cons (omega (arith, rw cons at whole, bits_worth (n / 2)))
+
+ones_none : count_ones 0 ≡ ones 0
+unfolding count_ones ones
 ones_none = refl
 
--- bit 0, and the bits of the half
-pub ones_half : (t : ℕ) → 0 < t → ones t ≡ t % 2 + ones (t / 2)
-unfolding ones set_bits worth
-ones_half t h =
-    let cons = bits_cons t h in
-    let whole : worth (bits t) ≡ t = bits_worth t in
-    rw cons (omega (arith, rw cons at whole, bits_worth (t / 2)))
+-- as the library counts them
+pub ones_are : (t : ℕ) → count_ones t ≡ ones t
+ones_are = bin_ind (λ t. count_ones t ≡ ones t) ones_none step
+  where
+    step : (t : ℕ) → count_ones (t / 2) ≡ ones (t / 2) → count_ones t ≡ ones t
+    step t half = ones_step t ∙ ap (λ (n : ℕ). t % 2 + n) half ∙ sym (ones_half t)
 
 -- ---- powers of two
 
--- what is known between two doublings: the power is 2^k, and k is at most ceil(log2 n)
-pub record Doubles (n power : ℕ) : Type 0 where
-  pub exponent : ℕ
-  pub power_is : power ≡ 2 ^ exponent
-  pub low : exponent ≤ clog n
-  pub some : 1 ≤ power
-  pub small : power ≤ 32
-
-pub doubles_start : (n : ℕ) → Doubles n 1
-doubles_start n = record { exponent = 0; power_is = refl; low = omega arith; some = omega arith; small = omega arith }
-
-pub doubles_next : (n power : ℕ) → n ≤ most_digits → power < n → Doubles n power → Doubles n (2 * power)
-doubles_next n power few less d = record {
-  exponent = suc d.exponent;
-  power_is = omega (arith, d.power_is);
-  low = lt_of_not-le (λ c. omega (arith, (clog_is_ceiling n d.exponent).1 c, d.power_is));
-  some = omega (arith, d.some);
-  small = omega arith;
-}
-
-pub doubles_end : (n power : ℕ) → n ≤ power → Doubles n power → power ≡ 2 ^ clog n
-doubles_end n power most d =
-    d.power_is ∙ ap (λ (k : ℕ). 2 ^ k) (le_antisymm d.low ((clog_is_ceiling n d.exponent).0 (omega (arith, d.power_is))))
+-- the next power of two is 2^ceil(log2 n)
+pub power_is : (n power : ℕ) → IsNextPowerOfTwo n power → power ≡ 2 ^ clog n
+power_is n power next =
+    let k = next.0.0 in
+    next.0.1 ∙ ap (λ (d : ℕ). 2 ^ d) (exponent k (rw next.0.1 at next.1) (rw next.0.1 at next.2))
+  where
+    exponent : (k : ℕ) → n ≤ 2 ^ k → 2 ^ k / 2 < max 1 n → k ≡ clog n
+    exponent zero most least = sym (clog_small n most)
+    exponent (suc j) most least = sym (clog_between n j (omega (arith, pow_pos j)) most)
 
 -- ---- the counts of a condition
 

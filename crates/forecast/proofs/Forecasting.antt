@@ -1,10 +1,7 @@
 -- From what a card says and what its conditions count to what Forecast answers:
 -- the conditions are those of the accepted card, the numbers are the formulas' numbers, and these are what its table reports.
 -- Assumes nothing.
-use mathlib.Core.Path.{◌≡◌, refl, sym, ap, ap₂, subst}
-use mathlib.Core.List.{List}
-use Prim.Native.Nat.{ℕ, ◌+◌, ◌-◌}
-use native.Mathlib.Omega.{arith}
+use Rattle.std.proofs.Common.{◌≡◌, refl, sym, ap, ap₂, subst, List, ℕ, ◌+◌, ◌-◌, arith}
 use Rattle.answer.specs.Outcome.{refused, accepted}
 use Rattle.answer.specs.Report.{Report}
 use Rattle.answer.proofs.Outcome.{was_refused}

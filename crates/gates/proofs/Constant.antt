@@ -1,13 +1,9 @@
 -- Sixteen bits are a constant exactly where, moved up by p / 2 and cut to sixteen bits again, they are below p.
 -- Assumes nothing.
-use mathlib.Core.Path.{◌≡◌, sym, ap, ◌∙◌}
+use Rattle.std.proofs.Common.{◌≡◌, sym, ap, ◌∙◌, ℕ, ◌+◌, ◌-◌, ◌/◌, ◌%◌, ◌≤◌, ◌<◌, arith, lt_of_not-le, lt-ltb, le-ltb, le-leb, ltb, leb}
 use mathlib.Core.Bool.{and-false}
-use Prim.Native.Nat.{ℕ, ◌+◌, ◌-◌, ◌/◌, ◌%◌, ◌≤◌, ◌<◌}
-use native.Mathlib.Omega.{arith}
 use native.Mathlib.Decide.{dec_le}
-use native.Mathlib.Nat.{lt_of_not-le}
-use borrow.Author.Tests.{lt-ltb, le-ltb, le-leb, lt-leb}
-use lib.Dec.{ltb, leb}
+use borrow.Author.Tests.{lt-leb}
 use Rattle.field.specs.Half.{half}
 use Rattle.circuit.specs.Constant.{plus, minus, is_constant, signed}
 use Rattle.circuit.proofs.Constant.{is_near_zero, signed_plus, signed_minus}

@@ -1,13 +1,12 @@
 -- The depth of one gate, from those of the gates before it.
-use Rattle.std.specs.Prelude.{ℕ, ◌≤◌, max, Bool, not, List, ltb, length, get_or}
-use Rattle.answer.specs.Numbers.{refusal_number}
+use Rattle.std.specs.Prelude.{ℕ, ◌≤◌, max, Bool, not, List, ltb, length, get_or, Result}
 use Rattle.answer.specs.Outcome.{Answer, refused, accepted, refuse, on_answer}
+use Rattle.answer.specs.Settled.{answer_of}
+use Rattle.answer.specs.declared.Refusal.{Refusal}
 use Rattle.circuit.specs.Depth.{depths}
 use Rattle.circuit.specs.Gate.{Gate}
 use Rattle.circuit.specs.Meaning.{meaning, entry_of}
 use Rattle.circuit.specs.Table.{most_gates}
-use Rattle.gates.specs.declared.GateRead.{GateRead}
-use Rattle.gates.specs.declared.GateRead.TheVariants.{Depth, Refused}
 
 -- the depth of a gate
 abbrev pub depth_of : List ℕ → Gate → ℕ
@@ -33,7 +32,6 @@ depth_read earlier read = on_answer read refused (λ g. accepted (depth_of earli
 abbrev pub AreLow : List ℕ → Type 0
 AreLow earlier = (length earlier ≤ most_gates) × ((i : ℕ) → get_or earlier i 0 ≤ i)
 
--- the refusal's number, or the depth, for each case of the enum
-abbrev pub gate_answer : GateRead → Answer ℕ
-gate_answer (Depth depth) = accepted depth
-gate_answer (Refused why) = refused (refusal_number why)
+-- the refusal's number, or the depth
+abbrev pub gate_answer : Result ℕ Refusal → Answer ℕ
+gate_answer = answer_of (λ depth. depth)

@@ -1,3 +1,2 @@
--- Only serves contracts of functions inside: the verdict on a record's word, and the depth of one gate.
-pub mod Verdict
+-- Only serves contracts of functions inside: the depth of one gate.
 pub mod GateDepth

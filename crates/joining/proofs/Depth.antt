@@ -2,17 +2,15 @@
 -- and its nodes are not too deep for another product.
 -- By the induction over halves.
 -- Assumes nothing.
-use mathlib.Core.Path.{◌≡◌}
-use mathlib.Core.List.{List}
-use Prim.Native.Nat.{ℕ, ◌+◌, ◌≤◌, ◌<◌}
-use native.Mathlib.Omega.{arith}
-use lib.ListN.{length}
+use Rattle.std.proofs.Common.{◌≡◌, List, ℕ, ◌+◌, ◌≤◌, ◌<◌, length, arith}
 use Rattle.circuit.specs.Segment.{Node}
 use Rattle.circuit.specs.Table.{most_gates}
 use Rattle.circuit.specs.Tree.{Tree}
 use Rattle.comparison.specs.Joining.{halves, join_run, join_lowest}
 use Rattle.comparison.proofs.Halves.{halves_run}
-use Rattle.joining.specs.Listed.{most_test_depth, node_at, listed_run, listed_whole, Joinable}
+use Rattle.joining.specs.Listed.{most_test_depth, less_at, equal_at, listed_run, listed_whole, Joinable, UpperJoinable}
+use Rattle.joining.proofs.Parts.{Halved, length_below, length_above, below_at, above_at}
+use Rattle.writer.specs.declared.Tests.{Tests}
 
 -- ---- tests that are at most D deep
 
@@ -43,31 +41,55 @@ module _ (D : ℕ) (less equal : ℕ → Node) where
 
 -- ---- digits that may be joined
 
-module _ {less less_depths equal equal_depths : List ℕ} where
-  -- some of them
-  pub some_joinable : {first m : ℕ} → Joinable less less_depths equal equal_depths first m
-      → (from n : ℕ) → 1 ≤ n → from + n ≤ first + m → Joinable less less_depths equal equal_depths from n
-  some_joinable may from n some within = record {
-    some = some;
-    few = omega arith;
-    long_less = omega arith;
-    long_equal = omega arith;
-    shallow_less = λ j to. may.shallow_less j (omega arith);
-    shallow_equal = λ j low to. may.shallow_equal j low (omega arith);
-  }
+-- those of each half
+module _ {tests below above : List Tests} (halved : Halved tests below above) where
+  pub below_joinable : Joinable tests → Joinable below
+  below_joinable may =
+      let long = length_below halved in
+      record {
+        some = omega (arith, long, halved.more);
+        few = omega (arith, long, may.few);
+        shallow_less = λ j to. rw (below_at halved j (omega (arith, long))) (may.shallow_less j (omega (arith, long)));
+        shallow_equal = λ j low to. rw (below_at halved j (omega (arith, long))) (may.shallow_equal j low (omega (arith, long)));
+      }
 
+  pub above_joinable : Joinable tests → UpperJoinable above
+  above_joinable may =
+      let long = length_above halved in
+      record {
+        some = omega (arith, long, halved.more);
+        few = omega (arith, long, may.few);
+        shallow = λ j to. rw (above_at halved j) (may.shallow_less _ (omega (arith, long)), may.shallow_equal _ (omega (arith, halved.more)) (omega (arith, long)));
+      }
+
+  pub below_upper : UpperJoinable tests → UpperJoinable below
+  below_upper may =
+      let long = length_below halved in
+      record {
+        some = omega (arith, long, halved.more);
+        few = omega (arith, long, may.few);
+        shallow = λ j to. rw (below_at halved j (omega (arith, long))) (may.shallow j (omega (arith, long)));
+      }
+
+  pub above_upper : UpperJoinable tests → UpperJoinable above
+  above_upper may =
+      let long = length_above halved in
+      record {
+        some = omega (arith, long, halved.more);
+        few = omega (arith, long, may.few);
+        shallow = λ j to. rw (above_at halved j) (may.shallow _ (omega (arith, long)));
+      }
+
+module _ {tests : List Tests} where
   -- so the nodes of a run are not too deep
-  pub run_shallow : {first m : ℕ} → Joinable less less_depths equal equal_depths first m → 1 ≤ first → (k : ℕ) {l e : Node}
-      → let run = listed_run less less_depths equal equal_depths first m k in
+  pub run_shallow : UpperJoinable tests → (k : ℕ) {l e : Node} → let run = listed_run tests k in
       l ≡ run.less → e ≡ run.equal → (l.depth < most_gates) × (e.depth < most_gates)
-  run_shallow {first} {m} may upper k hl he =
-      let deep = (within most_test_depth (node_at less less_depths) (node_at equal equal_depths) first m may.some).0
-      (λ j from to. (may.shallow_less j to, may.shallow_equal j (omega arith) to)) k in
-      rw (hl, he) (omega arith)
+  run_shallow may k hl he =
+      let deep = (within most_test_depth (less_at tests) (equal_at tests) 0 (length tests) may.some).0 (λ j from to. may.shallow j (omega arith)) k in
+      rw (hl, he) (omega (arith, deep, may.few))
 
-  pub lowest_shallow : {n : ℕ} → Joinable less less_depths equal equal_depths 0 n → (k : ℕ) {l : Node}
-      → l ≡ (listed_whole less less_depths equal equal_depths n k).output → l.depth < most_gates
-  lowest_shallow {n} may k hl =
-      let deep = (within most_test_depth (node_at less less_depths) (node_at equal equal_depths) 0 n may.some).1
-      (λ j from to. may.shallow_less j to) (λ j low to. may.shallow_equal j low to) k in
-      rw hl (omega arith)
+  pub lowest_shallow : Joinable tests → (k : ℕ) {l : Node} → l ≡ (listed_whole tests k).output → l.depth < most_gates
+  lowest_shallow may k hl =
+      let deep = (within most_test_depth (less_at tests) (equal_at tests) 0 (length tests) may.some).1
+      (λ j from to. may.shallow_less j (omega arith)) (λ j low to. may.shallow_equal j low (omega arith)) k in
+      rw hl (omega (arith, deep, may.few))

@@ -1,4 +1,5 @@
 -- Laws of order joining.
 pub mod Halving
 pub mod Joins
+pub mod Parts
 pub mod Depth

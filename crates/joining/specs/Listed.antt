@@ -1,9 +1,10 @@
--- The nodes of L and E of each digit, or run of digits, as they are lent: lists of gates and lists of depths, by number.
-use Rattle.std.specs.Prelude.{List, ℕ, ◌+◌, ◌-◌, ◌≤◌, ◌<◌, length, get_or}
-use Rattle.circuit.specs.Segment.{Node, Segment}
+-- L and E of each digit, or run of digits, as they are lent: one pair of tests for each, by number.
+use Rattle.std.specs.Prelude.{List, ℕ, ◌-◌, ◌≤◌, ◌<◌, length, get_or}
+use Rattle.circuit.specs.Segment as segment
 use Rattle.circuit.specs.Table.{most_gates}
 use Rattle.comparison.specs.Joining.{JoinedRun, run_from, whole_run}
-use Rattle.joining.specs.declared.Joined.{Joined}
+use Rattle.writer.specs.declared.Tests.{Tests}
+use Rattle.writer.specs.Nodes.{node_is}
 
 -- up to so many digits, or runs of digits, are joined
 abbrev pub most_joined : ℕ
@@ -13,26 +14,37 @@ most_joined = 64
 abbrev pub most_test_depth : ℕ
 most_test_depth = most_gates - most_joined
 
--- node number j of two lists
-abbrev pub node_at : List ℕ → List ℕ → ℕ → Node
-node_at gates depths j = record { gate = get_or gates j 0; depth = get_or depths j 0 }
+-- the tests of number j
+abbrev pub tests_at : List Tests → ℕ → Tests
+tests_at tests j = get_or tests j (record { less = record { gate = 0; depth = 0 }; equal = record { gate = 0; depth = 0 } })
 
--- their run of m digits from number first on, and that of all n digits, joined from gate number k on
-abbrev pub listed_run : List ℕ → List ℕ → List ℕ → List ℕ → ℕ → ℕ → ℕ → JoinedRun
-listed_run less less_depths equal equal_depths first m k = run_from (node_at less less_depths) (node_at equal equal_depths) first m k
+-- their L and their E
+abbrev pub less_at : List Tests → ℕ → segment.Node
+less_at tests j = node_is (tests_at tests j).less
 
-abbrev pub listed_whole : List ℕ → List ℕ → List ℕ → List ℕ → ℕ → ℕ → Segment
-listed_whole less less_depths equal equal_depths n k = whole_run (node_at less less_depths) (node_at equal equal_depths) n k
+abbrev pub equal_at : List Tests → ℕ → segment.Node
+equal_at tests j = node_is (tests_at tests j).equal
 
--- the lists hold the digits below number first + m, few enough and with tests no deeper than may be; the lowest digit has no E
-pub record Joinable (less less_depths equal equal_depths : List ℕ) (first m : ℕ) : Type 0 where
-  pub some : 1 ≤ m
-  pub few : first + m ≤ most_joined
-  pub long_less : (first + m ≤ length less) × (first + m ≤ length less_depths)
-  pub long_equal : (first + m ≤ length equal) × (first + m ≤ length equal_depths)
-  pub shallow_less : (j : ℕ) → j < first + m → get_or less_depths j 0 ≤ most_test_depth
-  pub shallow_equal : (j : ℕ) → 0 < j → j < first + m → get_or equal_depths j 0 ≤ most_test_depth
+-- the run of all of them, joined from gate number k on; and that of the lowest digits, without E of the first
+abbrev pub listed_run : List Tests → ℕ → JoinedRun
+listed_run tests k = run_from (less_at tests) (equal_at tests) 0 (length tests) k
 
--- a run whose nodes are not too deep for another product
-abbrev pub ShallowRun : Joined → Type 0
-ShallowRun run = (run.less.depth < most_gates) × (run.equal.depth < most_gates)
+abbrev pub listed_whole : List Tests → ℕ → segment.Segment
+listed_whole tests k = whole_run (less_at tests) (equal_at tests) (length tests) k
+
+-- few enough, and with tests no deeper than may be; the lowest digit has no E
+pub record Joinable (tests : List Tests) : Type 0 where
+  pub some : 1 ≤ length tests
+  pub few : length tests ≤ most_joined
+  pub shallow_less : (j : ℕ) → j < length tests → (less_at tests j).depth ≤ most_test_depth
+  pub shallow_equal : (j : ℕ) → 0 < j → j < length tests → (equal_at tests j).depth ≤ most_test_depth
+
+-- the same of digits that all have E
+pub record UpperJoinable (tests : List Tests) : Type 0 where
+  pub some : 1 ≤ length tests
+  pub few : length tests ≤ most_joined
+  pub shallow : (j : ℕ) → j < length tests → ((less_at tests j).depth ≤ most_test_depth) × ((equal_at tests j).depth ≤ most_test_depth)
+
+-- tests that are not too deep for another product
+abbrev pub ShallowTests : Tests → Type 0
+ShallowTests tests = (tests.less.depth < most_gates) × (tests.equal.depth < most_gates)

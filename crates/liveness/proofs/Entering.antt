@@ -1,15 +1,9 @@
 -- Entering the gates one after the other: after k gates the first k entries are the last uses by these gates, and the others are as they were.
 -- A gate more replaces the entries of the gates that it reads, and no gate so far reads it.
 -- Assumes nothing.
-use mathlib.Core.Path.{◌≡◌, refl, sym, ap, ap₂, subst, ◌∙◌}
-use mathlib.Core.Bool.{Bool, true, false}
-use mathlib.Core.List.{List, [], ◌∷◌, ◌++◌, append_assoc, append-nil}
-use Prim.Native.Nat.{ℕ, ◌+◌, ◌-◌, ◌≤◌, ◌<◌, zero-le}
-use native.Mathlib.Omega.{arith}
+use Rattle.std.proofs.Common.{◌≡◌, refl, sym, ap, ap₂, subst, ◌∙◌, Bool, true, false, List, [], ◌∷◌, ◌++◌, append_assoc, append-nil, ℕ, ◌+◌, ◌-◌, ◌≤◌, ◌<◌, zero-le, arith, length, take, drop, get_or, set, length-append, length-set, take-append-drop, length-take-le, drop-drop, drop-set-lt, ext_get_or, get_or-set_same, get_or-set_other, get_or-take}
 use native.Mathlib.Decide.{ℕ_discrete}
 use native.Mathlib.Nat.{sub-zero}
-use lib.ListN.{length, take, drop, get_or, set, length-append, length-set, take-append-drop}
-use lib.Seq.{length-take-le, drop-drop, drop-set-lt, ext_get_or, get_or-set_same, get_or-set_other, get_or-take}
 use Rattle.answer.specs.Outcome.{accepted}
 use Rattle.answer.proofs.Outcome.{accepted_same}
 use Rattle.circuit.specs.Every.{Every}
@@ -26,7 +20,7 @@ use Rattle.records.specs.Operands.{operands_at, entered}
 use Rattle.records.specs.Read.{gates_read}
 use Rattle.records.proofs.Entered.{length_entered, entered_at, entered_after}
 use Rattle.records.proofs.Read.{table_read, gates_read_lem, says_operands}
-use Rattle.records.proofs.Records.{record_at, lent_at, lent_is, next_gate}
+use Rattle.records.proofs.Records.{record_at, next_gate}
 use Rattle.liveness.specs.UsesIn.{uses_in}
 
 -- ---- one record after the other
@@ -70,24 +64,25 @@ module _ {table : List ℕ} {count : ℕ} {list₀ list : List ℕ} {k : ℕ} (u
     gate = next.0
 
     -- its record says its operands, which are lower gates
-    reads_these : operands_at (lent_at table k) ≡ operands gate
-    reads_these = rw (lent_is table k) (says_operands (head_of table) k (record_at table k) gate next.3)
+    reads_these : operands_at (record_at table k) ≡ operands gate
+    reads_these = says_operands (head_of table) k (record_at table k) gate next.3
 
     lower : Named k gate
     lower = named (head_of table) k gate (says (head_of table) k (record_at table k) gate next.3).fitted
 
-    pub within : Every (λ (i : ℕ). i < length list) (operands_at (lent_at table k))
-    within = rw reads_these (every_map (λ (i : ℕ) (l : i < k). omega (arith, u.size)) (operands gate) lower)
+    pub within : (bytes : List ℕ) → bytes ≡ record_at table k → Every (λ (i : ℕ). i < length list) (operands_at bytes)
+    within bytes is =
+        rw (is, reads_these) (every_map (λ (i : ℕ) (l : i < k). omega (arith, u.size)) (operands gate) lower)
 
     -- the list with the gate's operands entered, and then the gate itself
     abbrev during : List ℕ
-    during = entered k (operands_at (lent_at table k)) list
+    during = entered k (operands_at (record_at table k)) list
 
     abbrev after : List ℕ
     after = set during k k
 
     pub same_size : length during ≡ length list₀
-    same_size = length_entered k (operands_at (lent_at table k)) list ∙ u.size
+    same_size = length_entered k (operands_at (record_at table k)) list ∙ u.size
 
     -- the last use once the gate is there
     used : (i : ℕ) → last_use (u.done ++ (gate ∷ [])) i ≡ or_else (reads i gate) k (last_use u.done i)
@@ -121,22 +116,24 @@ module _ {table : List ℕ} {count : ℕ} {list₀ list : List ℕ} {k : ℕ} (u
             rw e (get_or-set_same during k k 0 (omega (arith, same_size)) ∙ sym (used k ∙ rw (no_read k (omega arith)) (u.unread k (omega arith))))
         entry i l (no e) =
             get_or-set_other during k i k 0 e
-            ∙ entered_at k (operands_at (lent_at table k)) list i (omega (arith, u.size))
+            ∙ entered_at k (operands_at (record_at table k)) list i (omega (arith, u.size))
             ∙ rw (reads_these, u.uses i (omega arith)) (sym (used i))
 
         later : drop (k + 1) after ≡ drop (k + 1) list₀
         later =
             drop-set-lt (k + 1) during k k (omega arith)
-            ∙ entered_after k (k + 1) (operands_at (lent_at table k)) list below
+            ∙ entered_after k (k + 1) (operands_at (record_at table k)) list below
             ∙ sym (drop-drop 1 k list)
             ∙ ap (drop 1) u.kept
             ∙ drop-drop 1 k list₀
           where
-            below : Every (λ (i : ℕ). i < k + 1) (operands_at (lent_at table k))
+            below : Every (λ (i : ℕ). i < k + 1) (operands_at (record_at table k))
             below = rw reads_these (every_map (λ (i : ℕ) (l : i < k). omega arith) (operands gate) lower)
 
-    pub turn : (now : List ℕ) → now ≡ during → Entering table count list₀ (set now k k) (k + 1)
-    turn now e = subst (λ (l : List ℕ). Entering table count list₀ (set l k k) (k + 1)) (sym e) one_more
+    pub turn : (bytes now : List ℕ) → bytes ≡ record_at table k → now ≡ entered k (operands_at bytes) list → Entering table count list₀ (set now k k) (k + 1)
+    turn bytes now is e =
+        let made : now ≡ during = e ∙ ap (λ (b : List ℕ). entered k (operands_at b) list) is in
+        subst (λ (l : List ℕ). Entering table count list₀ (set l k k) (k + 1)) (sym made) one_more
 
   -- all gates are entered
   pub ended : gates_read (reading table) ≡ accepted count → count ≤ length list₀ → count ≤ k → list ≡ uses_in (reading table) ++ drop count list₀

@@ -1,3 +1,2 @@
 -- Laws of the last-use list.
 pub mod Entering
-pub mod Outcome

@@ -1,11 +1,6 @@
 -- One order digit: its gates are the difference and its tests, and document 01's tests are the powers, the terms and E, and how many they are.
 -- Assumes nothing.
-use mathlib.Core.Path.{◌≡◌, refl, sym, ap}
-use mathlib.Core.Bool.{Bool, true, false}
-use mathlib.Core.List.{List, [], ◌∷◌, ◌++◌}
-use Prim.Native.Nat.{ℕ, ◌+◌, ◌-◌}
-use native.Mathlib.Omega.{arith}
-use lib.ListN.{length, length-append}
+use Rattle.std.proofs.Common.{◌≡◌, refl, sym, ap, Bool, true, false, List, [], ◌∷◌, ◌++◌, ℕ, ◌+◌, ◌-◌, arith, length, length-append}
 use Rattle.field.specs.Polynomials.{order_exponents}
 use Rattle.circuit.specs.Gate.{Left, Right, Flip}
 use Rattle.comparison.specs.Difference.{minus, z_gate}

@@ -1,3 +1,3 @@
--- Only serves contracts of functions inside: an order condition but for its last FLIP, and the lists of its digits' tests.
+-- Only serves contracts of functions inside: an order condition but for its last FLIP, and the list of its digits' tests.
 pub mod Slots
 pub mod TestsListed

@@ -12,48 +12,148 @@ ghost use Rattle.comparison.specs.OrderDigit.{terms};
 ghost use Rattle.comparison.specs.Tests.{less_node, equal_node, digit_depth, base_tests};
 ghost use Rattle.comparison.specs.Writing.{order_segment};
 ghost use Rattle.step.specs.Digit.{tests_by, Suits};
-ghost use Rattle.writer.specs.Modulus.{Modulus};
 ghost use Rattle.writer.specs.Nodes.{node_is};
 ghost use Rattle.writer.specs.Pen.{Wrote, Room, Moved};
-ghost use Rattle.order.specs.TestsListed.{Long, TestsListed};
-ghost use Rattle.powers.specs.Prepared.{Prepared, Provided};
+ghost use Rattle.order.specs.TestsListed.{TestsListed};
+ghost use Rattle.powers.specs.Prepared.{Prepared};
 ghost use Rattle.order.specs.Slots.{order_condition, digits_by};
 
+use arithmetic::Modulus;
+use powers::OrderTables;
 use steps::Tested;
-use writer::{Node, Pen, Slots, Written};
+use writer::{Gate, Node, Pen, Slots, Tests, Written, put_gate};
 
-// The terms: a SCALE of each power that has a constant, and their sum. Term m is of z^(2m+1), and the last one of z^(p-1).
-fn put_terms(
-    table: &mut [u8],
-    pen: Pen,
-    z: u16,
-    p: u16,
-    constants: &[u16],
-    depths: &[u16],
-) -> Written
-    requires room { Room table.old pen p × Modulus p × (z ≤ most_gates) }
-    requires prepared { Prepared p constants.now depths.now }
-    ensures wrote { Wrote table.old pen (terms p z pen.next (order_exponents p)) table.new result.pen }
-    ensures moves { Moved pen p result.pen }
-    ensures deepens { (result.node.gate ≡ pen.next + (p - 1)) × (result.node.depth ≡ digit_depth p) }
-{
-    let first = writer::put_scale(table, pen, z, constants[0]);
-    let mut sum = Written {
-        pen: first,
-        node: Node {
-            gate: pen.next,
-            depth: depths[0],
-        },
-    };
-    let half = (p - 1) / 2;
-    let mut m: u16 = 1;
-    while m < half {
-        let power = powers::power_at(z, p, 2 * m + 1, depths);
-        sum = writer::add_term(table, sum.pen, sum.node, power, constants[m as usize]);
-        m += 1;
+// The tests of order digits: of a modulus, by a step size or, where that is 0, document 01's, over prepared tables.
+#[derive(Clone, Copy, Debug, PartialEq, Eq)]
+pub struct OrderTests<'a> {
+    pub m: Modulus,
+    pub step: u16,
+    pub tables: &'a OrderTables,
+    ghost suits: { Suits m.p step },
+    ghost prepared: { Prepared m.p tables.now },
+}
+
+impl OrderTests<'_> {
+    // The terms: a SCALE of each power that has a constant, and their sum. Term i is of z^(2i+1), and the last one of z^(p-1).
+    fn put_terms(self, table: &mut [u8], pen: Pen, z: u16) -> Written
+        requires { Room table.old pen self.m.p × (z ≤ most_gates) }
+        ensures wrote { Wrote table.old pen (terms self.entry.m.p z pen.next (order_exponents self.entry.m.p)) table.new result.pen }
+        ensures moves { Moved pen self.entry.m.p result.pen }
+        ensures deepens { (result.node.gate ≡ pen.next + (self.entry.m.p - 1)) × (result.node.depth ≡ digit_depth self.entry.m.p) }
+    {
+        let p = self.m.p;
+        let tables = self.tables;
+        let half = (p - 1) / 2;
+        let first = put_gate(table, pen, Gate::Scale(z, tables.constants[0]));
+        let mut sum = Written {
+            pen: first,
+            node: Node {
+                gate: pen.next,
+                depth: tables.depths[0],
+            },
+        };
+        for i in 1..half {
+            let power = powers::power_at(z, p, 2 * i + 1, &tables.depths);
+            let constant = tables.constants[usize::from(i)];
+            sum = writer::add_term(table, sum.pen, sum.node, power, constant);
+        }
+        let top = powers::power_at(z, p, p - 1, &tables.depths);
+        let constant = tables.constants[usize::from(half)];
+        writer::add_term(table, sum.pen, sum.node, top, constant)
     }
-    let top = powers::power_at(z, p, p - 1, depths);
-    writer::add_term(table, sum.pen, sum.node, top, constants[half as usize])
+
+    // Document 01's tests of digit number j, whose difference is written from gate number k on: the powers and the terms, and E.
+    fn put_base_tests(self, table: &mut [u8], pen: Pen, k: u16, j: u16) -> Tested
+        requires room { Room table.old pen (length (order_tests (base_tests self.m.p) j k)) }
+        requires next_value { pen.next ≡ k + 3 }
+        ensures wrote { Wrote table.old pen (order_tests (base_tests self.entry.m.p) j k) table.new result.pen }
+        ensures moves { Moved pen (length (order_tests (base_tests self.entry.m.p) j k)) result.pen }
+        ensures less { node_is result.tests.less ≡ less_node (base_tests self.entry.m.p) k }
+        ensures equal { 0 < j → node_is result.tests.equal ≡ equal_node (base_tests self.entry.m.p) k }
+    {
+        let z = k + 2;
+        let raised = powers::put_powers(table, pen, z, self.m);
+        let less = self.put_terms(table, raised, z);
+        let top = powers::power_at(z, self.m.p, self.m.p - 1, &self.tables.depths);
+        let equal = put_equal(table, less.pen, j, top);
+        Tested {
+            pen: equal.pen,
+            tests: Tests {
+                less: less.node,
+                equal: equal.node,
+            },
+        }
+    }
+
+    // The tests of digit number j, whose difference is written from gate number k on.
+    fn put_tests(self, table: &mut [u8], pen: Pen, k: u16, j: u16) -> Tested
+        requires room { Room table.old pen (length (order_tests (tests_by self.m.p self.step) j k)) }
+        requires next_value { pen.next ≡ k + 3 }
+        ensures wrote { Wrote table.old pen (order_tests (tests_by self.entry.m.p self.entry.step) j k) table.new result.pen }
+        ensures moves { Moved pen (length (order_tests (tests_by self.entry.m.p self.entry.step) j k)) result.pen }
+        ensures less { node_is result.tests.less ≡ less_node (tests_by self.entry.m.p self.entry.step) k }
+        ensures equal { 0 < j → node_is result.tests.equal ≡ equal_node (tests_by self.entry.m.p self.entry.step) k }
+    {
+        if self.step == 0 {
+            return self.put_base_tests(table, pen, k, j);
+        }
+        steps::put_step_tests(table, pen, k, self.m, self.step, j, self.tables)
+    }
+
+    // Digit number j: its difference and its tests.
+    fn put_digit(self, table: &mut [u8], pen: Pen, backward: bool, slots: Slots, j: u16) -> Tested
+        requires room { Room table.old pen (length (order_digit (tests_by self.m.p self.step) (order_condition backward slots) j pen.next)) }
+        requires slots { (slots.left + j < most_digits) × (slots.right + j < most_digits) }
+        ensures wrote { Wrote table.old pen (order_digit (tests_by self.entry.m.p self.entry.step) (order_condition backward slots) j pen.next) table.new result.pen }
+        ensures moves { Moved pen (length (order_digit (tests_by self.entry.m.p self.entry.step) (order_condition backward slots) j pen.next)) result.pen }
+        ensures less { node_is result.tests.less ≡ less_node (tests_by self.entry.m.p self.entry.step) pen.next }
+        ensures equal { 0 < j → node_is result.tests.equal ≡ equal_node (tests_by self.entry.m.p self.entry.step) pen.next }
+    {
+        let left = slots.left + j;
+        let right = slots.right + j;
+        let differed = writer::put_difference(table, pen, backward, left, right);
+        self.put_tests(table, differed, pen.next, j)
+    }
+
+    // The digits of an order condition, low to high. Their tests go to the slice, which has a place for each.
+    fn put_digits(
+        self,
+        table: &mut [u8],
+        pen: Pen,
+        backward: bool,
+        slots: Slots,
+        tests: &mut [Tests],
+    ) -> Pen
+        requires room { Room table.old pen (length (digits_by (tests_by self.m.p self.step) (order_condition backward slots) pen.next)) }
+        requires slots { HasSlots most_digits most_digits (order_condition backward slots) }
+        requires one_each { length tests.old ≡ slots.count }
+        ensures wrote { Wrote table.old pen (digits_by (tests_by self.entry.m.p self.entry.step) (order_condition backward slots) pen.next) table.new result }
+        ensures moves { Moved pen (length (digits_by (tests_by self.entry.m.p self.entry.step) (order_condition backward slots) pen.next)) result }
+        ensures fills { TestsListed (tests_by self.entry.m.p self.entry.step) pen.next slots.count tests.new }
+    {
+        let mut last = pen;
+        for j in 0..slots.count {
+            let digit = self.put_digit(table, last, backward, slots, j);
+            tests[usize::from(j)] = digit.tests;
+            last = digit.pen;
+        }
+        last
+    }
+
+    // An order condition but for its last FLIP: its digits, then their joining. The node is L of the whole.
+    pub fn put_order(self, table: &mut [u8], pen: Pen, backward: bool, slots: Slots) -> Written
+        requires room { Room table.old pen (length (order_segment (tests_by self.m.p self.step) (order_condition backward slots) pen.next).gates) }
+        requires slots { HasSlots most_digits most_digits (order_condition backward slots) }
+        ensures wrote { Wrote table.old pen (order_segment (tests_by self.entry.m.p self.entry.step) (order_condition backward slots) pen.next).gates table.new result.pen }
+        ensures moves { Moved pen (length (order_segment (tests_by self.entry.m.p self.entry.step) (order_condition backward slots) pen.next).gates) result.pen }
+        ensures output { node_is result.node ≡ (order_segment (tests_by self.entry.m.p self.entry.step) (order_condition backward slots) pen.next).output }
+    {
+        let none = Node { gate: 0, depth: 0 };
+        let mut all = [Tests { less: none, equal: none }; digits::MOST_DIGITS];
+        let tests = &mut all[..usize::from(slots.count)];
+        let last = self.put_digits(table, pen, backward, slots, tests);
+        joining::join_digits(table, last, tests)
+    }
 }
 
 // E, of every digit but the lowest: the digit is number j, and top is z^(p-1).
@@ -69,163 +169,7 @@ fn put_equal(table: &mut [u8], pen: Pen, j: u16, top: Node) -> Written
     let gate = pen.next;
     let depth = top.depth;
     Written {
-        pen: writer::put_flip(table, pen, top.gate),
+        pen: put_gate(table, pen, Gate::Flip(top.gate)),
         node: Node { gate, depth },
     }
-}
-
-// Document 01's tests of digit number j, whose difference is written from gate number k on: the powers and the terms, and E.
-fn put_base_tests(
-    table: &mut [u8],
-    pen: Pen,
-    k: u16,
-    p: u16,
-    j: u16,
-    constants: &[u16],
-    depths: &[u16],
-) -> Tested
-    requires provided { Provided table.old pen (order_tests (base_tests p) j k) p constants.now depths.now }
-    requires next_value { pen.next ≡ k + 3 }
-    ensures wrote { Wrote table.old pen (order_tests (base_tests p) j k) table.new result.pen }
-    ensures moves { Moved pen (length (order_tests (base_tests p) j k)) result.pen }
-    ensures less { node_is result.less ≡ less_node (base_tests p) k }
-    ensures equal { 0 < j → node_is result.equal ≡ equal_node (base_tests p) k }
-{
-    let z = k + 2;
-    let raised = powers::put_powers(table, pen, z, p);
-    let summed = put_terms(table, raised, z, p, constants, depths);
-    let top = powers::power_at(z, p, p - 1, depths);
-    let flipped = put_equal(table, summed.pen, j, top);
-    let last = flipped.pen;
-    let less = summed.node;
-    let equal = flipped.node;
-    Tested {
-        pen: last,
-        less,
-        equal,
-    }
-}
-
-// Its tests by a step size, or document 01's where that is 0.
-fn put_tests(
-    table: &mut [u8],
-    pen: Pen,
-    k: u16,
-    p: u16,
-    step: u16,
-    j: u16,
-    constants: &[u16],
-    depths: &[u16],
-) -> Tested
-    requires provided { Provided table.old pen (order_tests (tests_by p step) j k) p constants.now depths.now }
-    requires next_value { (pen.next ≡ k + 3) × Suits p step }
-    ensures wrote { Wrote table.old pen (order_tests (tests_by p step) j k) table.new result.pen }
-    ensures moves { Moved pen (length (order_tests (tests_by p step) j k)) result.pen }
-    ensures less { node_is result.less ≡ less_node (tests_by p step) k }
-    ensures equal { 0 < j → node_is result.equal ≡ equal_node (tests_by p step) k }
-{
-    if step == 0 {
-        return put_base_tests(table, pen, k, p, j, constants, depths);
-    }
-    steps::put_step_tests(table, pen, k, p, step, j, constants, depths)
-}
-
-// Digit number j: its difference and its tests.
-fn put_order_digit(
-    table: &mut [u8],
-    pen: Pen,
-    p: u16,
-    step: u16,
-    backward: bool,
-    slots: Slots,
-    j: u16,
-    constants: &[u16],
-    depths: &[u16],
-) -> Tested
-    requires provided { Provided table.old pen (order_digit (tests_by p step) (order_condition backward slots) j pen.next) p constants.now depths.now }
-    requires suits { Suits p step × (slots.left + j < most_digits) × (slots.right + j < most_digits) }
-    ensures wrote { Wrote table.old pen (order_digit (tests_by p step) (order_condition backward slots) j pen.next) table.new result.pen }
-    ensures moves { Moved pen (length (order_digit (tests_by p step) (order_condition backward slots) j pen.next)) result.pen }
-    ensures less { node_is result.less ≡ less_node (tests_by p step) pen.next }
-    ensures equal { 0 < j → node_is result.equal ≡ equal_node (tests_by p step) pen.next }
-{
-    let k = pen.next;
-    let differed = writer::put_difference(table, pen, backward, slots.left + j, slots.right + j);
-    put_tests(table, differed, k, p, step, j, constants, depths)
-}
-
-// The digits of an order condition, low to high. Gates and depths of their L and E go to the lists, at the digit's number.
-fn put_order_digits(
-    table: &mut [u8],
-    pen: Pen,
-    p: u16,
-    step: u16,
-    backward: bool,
-    slots: Slots,
-    constants: &[u16],
-    depths: &[u16],
-    less: &mut [u16],
-    less_depths: &mut [u16],
-    equal: &mut [u16],
-    equal_depths: &mut [u16],
-) -> Pen
-    requires provided { Provided table.old pen (digits_by (tests_by p step) (order_condition backward slots) pen.next) p constants.now depths.now }
-    requires suits { Suits p step × HasSlots most_digits most_digits (order_condition backward slots) }
-    requires long { Long slots.count less.old less_depths.old equal.old equal_depths.old }
-    ensures wrote { Wrote table.old pen (digits_by (tests_by p step) (order_condition backward slots) pen.next) table.new result }
-    ensures moves { Moved pen (length (digits_by (tests_by p step) (order_condition backward slots) pen.next)) result }
-    ensures fills { TestsListed (tests_by p step) pen.next slots.count less.new less_depths.new equal.new equal_depths.new }
-{
-    let mut last = pen;
-    let mut j: u16 = 0;
-    while j < slots.count {
-        let digit = put_order_digit(table, last, p, step, backward, slots, j, constants, depths);
-        let at = j as usize;
-        less[at] = digit.less.gate;
-        less_depths[at] = digit.less.depth;
-        equal[at] = digit.equal.gate;
-        equal_depths[at] = digit.equal.depth;
-        last = digit.pen;
-        j += 1;
-    }
-    last
-}
-
-// An order condition but for its last FLIP: its digits, then their joining. The node is L of the whole.
-pub fn put_order(
-    table: &mut [u8],
-    pen: Pen,
-    p: u16,
-    step: u16,
-    backward: bool,
-    slots: Slots,
-    constants: &[u16],
-    depths: &[u16],
-) -> Written
-    requires provided { Provided table.old pen (order_segment (tests_by p step) (order_condition backward slots) pen.next).gates p constants.now depths.now }
-    requires suits { Suits p step × HasSlots most_digits most_digits (order_condition backward slots) }
-    ensures wrote { Wrote table.old pen (order_segment (tests_by p step) (order_condition backward slots) pen.next).gates table.new result.pen }
-    ensures moves { Moved pen (length (order_segment (tests_by p step) (order_condition backward slots) pen.next).gates) result.pen }
-    ensures output { node_is result.node ≡ (order_segment (tests_by p step) (order_condition backward slots) pen.next).output }
-{
-    let mut less = [0u16; digits::MOST_DIGITS];
-    let mut less_depths = [0u16; digits::MOST_DIGITS];
-    let mut equal = [0u16; digits::MOST_DIGITS];
-    let mut equal_depths = [0u16; digits::MOST_DIGITS];
-    let last = put_order_digits(
-        table,
-        pen,
-        p,
-        step,
-        backward,
-        slots,
-        constants,
-        depths,
-        &mut less,
-        &mut less_depths,
-        &mut equal,
-        &mut equal_depths,
-    );
-    let n = slots.count;
-    joining::join_digits(table, last, n, &less, &less_depths, &equal, &equal_depths)
 }

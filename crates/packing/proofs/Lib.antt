@@ -1,3 +1,4 @@
 -- Laws of the build's state as words.
 pub mod Words
 pub mod Steps
+pub mod Over

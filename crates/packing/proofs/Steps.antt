@@ -16,7 +16,7 @@ use Rattle.filling.proofs.Filled.{begin_filled}
 use Rattle.filling.proofs.Promises.{finish_closes}
 use Rattle.filling.proofs.Steps.{is_settled, add_passed}
 use Rattle.state.specs.State.{state_is}
-use Rattle.state.specs.declared.BuildState as declared
+use Rattle.state.specs.declared.build.BuildState as declared
 use Rattle.packing.specs.Words.{words_of, words_after}
 
 -- a state that is begun has no more conditions than the arrays have entries

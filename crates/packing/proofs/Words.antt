@@ -20,11 +20,12 @@ use Rattle.circuit.specs.Table.{least_weight, most_weight, wrong_weight}
 use Rattle.query.specs.Card.{most_conditions}
 use Rattle.filling.proofs.Filled.{opened}
 use Rattle.filling.proofs.Promises.{stays_open}
-use Rattle.tree.specs.Factors.{nodes}
-use Rattle.tree.proofs.Factors.{length_factors, nodes_gates, nodes_depths, nodes_back}
+use Rattle.writer.specs.Nodes.{node_is}
+use Rattle.writer.specs.declared.Node as code
 use Rattle.state.specs.State.{state_is}
-use Rattle.state.specs.declared.BuildState as declared
-use Rattle.packing.specs.Words.{padded, words_of, word, wrong_words, state_in, WordsBack, OpenedWords, FreshWords}
+use Rattle.state.specs.declared.build.BuildState as declared
+use Rattle.packing.specs.Outputs.{gates_of, depths_of, output_at, outputs_in}
+use Rattle.packing.specs.Words.{padded, words_of, nodes, word, wrong_words, state_in, WordsBack, OpenedWords, FreshWords}
 
 -- ---- entries one by one
 
@@ -58,10 +59,19 @@ also_true : (b : Bool) → (b && true) ≡ b
 also_true true = refl
 also_true false = refl
 
+-- the gates and the depths of outputs, by those of the code
+gates_same : (outputs : List code.Node) → map (λ (f : Node). f.gate) (map node_is outputs) ≡ gates_of outputs
+gates_same [] = refl
+gates_same (f ∷ fs) = ap (λ (t : List ℕ). f.gate ∷ t) (gates_same fs)
+
+depths_same : (outputs : List code.Node) → map (λ (f : Node). f.depth) (map node_is outputs) ≡ depths_of outputs
+depths_same [] = refl
+depths_same (f ∷ fs) = ap (λ (t : List ℕ). f.depth ∷ t) (depths_same fs)
+
 -- the words of a state: its numbers, then its outputs' gates and their depths
 pub words_are : (state : declared.BuildState) (told : ℕ) (o d : List ℕ) → state.count ≤ most_conditions
-    → length state.outputs ≡ 8 → length state.depths ≡ 8 → told ≡ bit state.begun
-    → o ≡ padded (take state.count state.outputs) → d ≡ padded (take state.count state.depths)
+    → length state.outputs ≡ 8 → told ≡ bit state.begun
+    → o ≡ padded (gates_of (take state.count state.outputs)) → d ≡ padded (depths_of (take state.count state.outputs))
     → told
     ∷ state.prime
     ∷ state.weight
@@ -72,12 +82,14 @@ pub words_are : (state : declared.BuildState) (told : ℕ) (o d : List ℕ) → 
     ∷ state.squares
     ∷ (entries_from o 0 8 ++ entries_from d 0 8)
     ≡ words_of (state_is state)
-words_are state told o d few lo ld ey eo ed =
+words_are state told o d few long ey eo ed =
     let n = state.count in
-    let gates = take n state.outputs in
-    let depths = take n state.depths in
-    let a : length gates ≡ n = length-take-le n state.outputs (omega arith) in
-    let b : length depths ≡ n = length-take-le n state.depths (omega arith) in
+    let outputs = take n state.outputs in
+    let count : length outputs ≡ n = length-take-le n state.outputs (omega arith) in
+    let gates = gates_of outputs in
+    let depths = depths_of outputs in
+    let a : length gates ≡ n = length-map outputs (λ (f : code.Node). f.gate) ∙ count in
+    let b : length depths ≡ n = length-map outputs (λ (f : code.Node). f.depth) ∙ count in
     let first : entries_from o 0 8 ≡ padded gates = entries_all o 8 (ap length eo ∙ padded_length gates (omega arith)) ∙ eo in
     let second : entries_from d 0 8 ≡ padded depths = entries_all d 8 (ap length ed ∙ padded_length depths (omega arith)) ∙ ed in
     ap₂
@@ -87,9 +99,9 @@ words_are state told o d few lo ld ey eo ed =
       ey,
       le-ltb most_conditions n few,
       also_true state.begun,
-      length_factors n state.outputs state.depths (omega arith) (omega arith),
-      nodes_gates gates depths (b ∙ sym a),
-      nodes_depths gates depths (b ∙ sym a),
+      length-map outputs node_is ∙ count,
+      gates_same outputs,
+      depths_same outputs,
     )
 
 -- ---- words as the code reads them
@@ -124,16 +136,27 @@ made_of words = record {
   gates = word words 5;
   products = word words 6;
   squares = word words 7;
-  outputs = entries_from words 8 8;
-  depths = entries_from words 16 8;
+  outputs = outputs_in words;
 }
+
+-- the first of n outputs whose gates and depths stand from two places on
+abbrev outputs_from : List ℕ → ℕ → ℕ → ℕ → List code.Node
+outputs_from words f g zero = []
+outputs_from words f g (suc n) = record { gate = get_or words f 0; depth = get_or words g 0 } ∷ outputs_from words (suc f) (suc g) n
+
+paired : (words : List ℕ) (f g n k : ℕ) → map node_is (take k (outputs_from words f g n)) ≡ nodes (take k (entries_from words f n)) (take k (entries_from words g n))
+unfolding nodes
+paired words f g n zero = refl
+paired words f g zero (suc k) = refl
+paired words f g (suc n) (suc k) =
+    ap (λ (t : List Node). record { gate = get_or words f 0; depth = get_or words g 0 } ∷ t) (paired words (suc f) (suc g) n k)
 
 pub made_of_lem : (words : List ℕ) → length words ≡ 24 → wrong_words words ≡ false → state_is (made_of words) ≡ state_in words
 made_of_lem words l right =
     let few = le-ltb most_conditions (word words 3) (ranges words right).count in
     let first = entries_from_lem words 8 8 16 refl (omega arith) in
     let second = entries_from_lem words 16 8 24 refl (omega arith) in
-    rw (right, first, second, few, also_true (eqb (word words 0) 1))
+    rw (right, few, also_true (eqb (word words 0) 1), paired words 8 16 8 (word words 3), first, second)
 
 -- ---- the promises
 
@@ -141,6 +164,11 @@ made_of_lem words l right =
 parts : (a b : List ℕ) → length a ≡ 8 → length b ≡ 8 → (take 8 (a ++ b) ≡ a) × (drop 8 (take 16 (a ++ b)) ≡ b)
 parts a b la lb =
     (take_at a b 8 la, ap (drop 8) (take_all 16 (a ++ b) (omega (arith, length-append a b))) ∙ drop_at a b 8 la)
+
+nodes_back : (factors : List Node) → nodes (map (λ (f : Node). f.gate) factors) (map (λ (f : Node). f.depth) factors) ≡ factors
+unfolding nodes
+nodes_back [] = refl
+nodes_back (f ∷ factors) = ap (λ (t : List Node). f ∷ t) (nodes_back factors)
 
 pub words_back : WordsBack
 words_back state t few =

@@ -1,5 +1,5 @@
 -- The build's state as programs in Rust and C keep it between calls (document 02, E8): 24 words of 16 bits. Proved in `proofs/Words.antt`.
-use Rattle.std.specs.Prelude.{◌≡◌, Bool, false, ◌||◌, List, ◌∷◌, ◌++◌, map, ℕ, ◌≤◌, ltb, eqb, length, get_or, take, drop, replicate}
+use Rattle.std.specs.Prelude.{◌≡◌, Bool, false, ◌||◌, List, [], ◌∷◌, ◌++◌, map, ℕ, ◌≤◌, ltb, eqb, length, get_or, take, drop, replicate}
 use Rattle.std.proofs.Math.Seq.{slice}
 use Rattle.answer.specs.Outcome.{refuse, on_answer}
 use Rattle.field.specs.Bit.{bit}
@@ -8,7 +8,6 @@ use Rattle.query.specs.Card.{most_conditions}
 use Rattle.filling.specs.Filling.{Step}
 use Rattle.filling.specs.Promises.{Opened}
 use Rattle.filling.specs.State.{BuildState, no_build, is_closed}
-use Rattle.tree.specs.Factors.{nodes}
 
 -- ---- from a state to words
 
@@ -31,6 +30,12 @@ words_of state =
     ∷ (padded (map (λ (f : Node). f.gate) state.outputs) ++ padded (map (λ (f : Node). f.depth) state.outputs))
 
 -- ---- from words to a state
+
+-- gate numbers and depths, in pairs
+unfoldable pub nodes : List ℕ → List ℕ → List Node
+nodes [] depths = []
+nodes (g ∷ gates) [] = []
+nodes (g ∷ gates) (d ∷ depths) = record { gate = g; depth = d } ∷ nodes gates depths
 
 abbrev pub word : List ℕ → ℕ → ℕ
 word words k = get_or words k 0

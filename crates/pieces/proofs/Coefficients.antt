@@ -1,14 +1,7 @@
 -- The bits of a coefficient: where they stand among the constants, that they are 0 where it is, and that a SCALE reads them as its constant.
 -- Assumes nothing.
-use mathlib.Core.Path.{◌≡◌, sym, ap, ◌∙◌}
-use mathlib.Core.List.{List}
-use Prim.Native.Nat.{ℕ, ◌+◌, ◌-◌, ◌*◌, ◌/◌, ◌%◌, ◌≤◌, ◌<◌}
-use native.Mathlib.Omega.{arith}
+use Rattle.std.proofs.Common.{◌≡◌, sym, ap, ◌∙◌, List, ℕ, ◌+◌, ◌-◌, ◌*◌, ◌/◌, ◌%◌, ◌≤◌, ◌<◌, arith, lt_of_not-le, ne_eqb, eqb, get_or}
 use native.Mathlib.Decide.{dec_le}
-use native.Mathlib.Nat.{lt_of_not-le}
-use borrow.Author.Tests.{ne_eqb}
-use lib.Dec.{eqb}
-use lib.ListN.{get_or}
 use Rattle.field.specs.Half.{half}
 use Rattle.field.specs.Polynomials.{order_constant}
 use Rattle.circuit.specs.Constant.{code, sixteen_bits, signed, bits_of}

@@ -1,11 +1,7 @@
 -- A piece as it is written: its terms, or its lower and its upper piece and the last gates; and what it asks of its numbers.
 -- Assumes nothing.
-use mathlib.Core.Path.{◌≡◌, ap, ◌∙◌}
-use mathlib.Core.List.{List, ◌++◌}
-use Prim.Native.Nat.{ℕ, zero, suc, ◌+◌, ◌-◌, ◌*◌, ◌/◌, ◌^◌, ◌≤◌, ◌<◌}
-use native.Mathlib.Omega.{arith}
-use native.Mathlib.Nat.{pow-succ', mul-le-mul_right}
-use lib.ListN.{length, length-append}
+use Rattle.std.proofs.Common.{◌≡◌, ap, ◌∙◌, List, ◌++◌, ℕ, zero, suc, ◌+◌, ◌-◌, ◌*◌, ◌/◌, ◌^◌, ◌≤◌, ◌<◌, arith, mul-le-mul_right, length, length-append}
+use native.Mathlib.Nat.{pow-succ'}
 use Rattle.field.specs.Byte.{byte_values}
 use Rattle.field.proofs.Logarithm.{clog_is_ceiling, clog_power}
 use Rattle.writer.specs.declared.Pen.{Pen}
@@ -29,13 +25,9 @@ module _ (step level o span : ℕ) (s : Spanned step level o span) where
         (clog_is_ceiling (2 ^ level) 9).0 (omega (arith, s.doubled, s.bounded, mul-le-mul_right (2 ^ level) one)),
       )
 
-  -- one that does not split
-  pub flat_span : level ≡ 0 → o + step ≤ 2 * byte_values
-  flat_span low = omega (arith, s.bounded, s.doubled, ap (λ (n : ℕ). step * 2 ^ n) low)
-
   module _ (some : 1 ≤ level) where
-    -- one that does: it splits in the middle
-    pub half_span : span / 2 ≡ step * 2 ^ (level - 1)
+    -- one that splits does so in the middle
+    half_span : span / 2 ≡ step * 2 ^ (level - 1)
     half_span = ap (λ (n : ℕ). n / 2) s.doubled ∙ go level some
       where
         go : (n : ℕ) → 1 ≤ n → (step * 2 ^ n) / 2 ≡ step * 2 ^ (n - 1)
@@ -74,30 +66,30 @@ module _ (p step z : ℕ) (c : ℕ → ℕ) where
   piece_split (suc i) half o k some h = let e : suc i - 1 ≡ i = omega arith in rw (h, e)
 
   -- room for each of the three parts
-  pub piece_room : (level half o k : ℕ) → 1 ≤ level → half ≡ step * 2 ^ (level - 1)
+  pub piece_room : (level o span k : ℕ) → Spanned step level o span → 1 ≤ level
       → let low = low_of level o k in
-      let high = high_of half level o (k + length low.gates) in
+      let high = high_of (span / 2) level o (k + length low.gates) in
       let next = k + length low.gates + length high.gates in
       length (piece p step z c level o k).gates
       ≡ length low.gates + (length high.gates + length (last_gates (split_node z step (level - 1)) next low.sum high.sum))
-  piece_room level half o k some h =
+  piece_room level o span k spanned some =
       let low = low_of level o k in
-      let high = high_of half level o (k + length low.gates) in
+      let high = high_of (span / 2) level o (k + length low.gates) in
       let next = k + length low.gates + length high.gates in
       let last = last_gates (split_node z step (level - 1)) next low.sum high.sum in
-      ap (λ (x : Piece). length x.gates) (piece_split level half o k some h)
+      ap (λ (x : Piece). length x.gates) (piece_split level (span / 2) o k some (half_span step level o span spanned some))
       ∙ length-append low.gates (high.gates ++ last) ∙ ap (λ (n : ℕ). length low.gates + n) (length-append high.gates last)
 
   -- what was written
-  pub piece_written : (level half o : ℕ) → 1 ≤ level → half ≡ step * 2 ^ (level - 1)
+  pub piece_written : (level o span : ℕ) → Spanned step level o span → 1 ≤ level
       → {t t₁ t₂ t₃ : List ℕ} {pen pen₁ pen₂ pen₃ : Pen} {l h s : Sum}
       → let power = split_node z step (level - 1) in
       Wrote t pen (low_of level o pen.next).gates t₁ pen₁ → l ≡ (low_of level o pen.next).sum
-      → Wrote t₁ pen₁ (high_of half level o pen₁.next).gates t₂ pen₂ → h ≡ (high_of half level o pen₁.next).sum
+      → Wrote t₁ pen₁ (high_of (span / 2) level o pen₁.next).gates t₂ pen₂ → h ≡ (high_of (span / 2) level o pen₁.next).sum
       → Wrote t₂ pen₂ (last_gates power pen₂.next l h) t₃ pen₃ → s ≡ last_sum power pen₂.next l h
       → Wrote t pen (piece p step z c level o pen.next).gates t₃ pen₃ × (s ≡ (piece p step z c level o pen.next).sum)
-  piece_written level half o some e {pen = pen} lows l highs h last s =
-      rw (piece_split level half o pen.next some e, ← lows.number, ← highs.number, ← l, ← h) (then lows (then highs last), s)
+  piece_written level o span spanned some {pen = pen} lows l highs h last s =
+      rw (piece_split level (span / 2) o pen.next some (half_span step level o span spanned some), ← lows.number, ← highs.number, ← l, ← h) (then lows (then highs last), s)
 
 -- ---- how deep
 

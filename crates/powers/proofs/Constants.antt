@@ -1,11 +1,10 @@
 -- A list that begins with the constants of p: where the sixteen bits of each stand.
 -- Assumes nothing.
-use mathlib.Core.Path.{◌≡◌, refl, ap, ◌∙◌}
-use mathlib.Core.List.{List, [], ◌∷◌, ◌++◌, map, map-map}
-use Prim.Native.Nat.{ℕ, zero, suc, ◌+◌, ◌-◌, ◌*◌, ◌<◌}
-use native.Mathlib.Omega.{arith}
-use lib.ListN.{length, length-map, length-append, get_or, get_or-append}
+use Rattle.std.proofs.Common.{◌≡◌, refl, sym, ap, ◌∙◌, List, [], ◌∷◌, ◌++◌, map, ℕ, zero, suc, ◌+◌, ◌-◌, ◌*◌, ◌<◌, arith, length, drop, length-append, get_or}
+use mathlib.Core.List.{map-map}
+use lib.ListN.{length-map, get_or-append}
 use lib.Seq.{get_or_at}
+use Rattle.std.proofs.lemmas.List.{take-append-drop}
 use Rattle.field.specs.Half.{half}
 use Rattle.field.specs.Polynomials.{every_second, order_exponents, order_constant, order_constants}
 use Rattle.field.proofs.OrderConstants.{length_second, second_at}
@@ -23,13 +22,19 @@ second_then n i m later l =
     get_or-append (every_second n i) later 0 m (omega (arith, length_second n i)) ∙ second_at n i m l
 
 module _ (p : ℕ) (list : List ℕ) (c : Constants p list) where
+  abbrev later : List ℕ
+  later = drop (length (order_constants p)) list
+
+  whole : list ≡ map (bits_of p) (order_constants p) ++ later
+  whole = sym (take-append-drop (length (order_constants p)) list) ∙ ap (λ (bits : List ℕ). bits ++ later) c.begins
+
   -- there is one for each exponent
   pub constants_long : half p < length list
   unfolding order_constants
   constants_long =
-      rw c.begins (omega (
+      rw whole (omega (
         arith,
-        length-append (map (bits_of p) (order_constants p)) c.later,
+        length-append (map (bits_of p) (order_constants p)) later,
         length-map (order_constants p) (bits_of p),
         length-map (order_exponents p) (order_constant p),
         exponents_length p,
@@ -40,8 +45,8 @@ module _ (p : ℕ) (list : List ℕ) (c : Constants p list) where
   unfolding order_constants
   bits_at m l =
       let written : ℕ → ℕ = λ i. bits_of p (order_constant p i) in
-      let begins = c.begins ∙ ap (λ (bits : List ℕ). bits ++ c.later) (map-map (bits_of p) (order_constant p) (order_exponents p)) in
-      rw begins (mapped_at written (order_exponents p) c.later m (omega (arith, exponents_length p)))
+      let begins = whole ∙ ap (λ (bits : List ℕ). bits ++ later) (map-map (bits_of p) (order_constant p) (order_exponents p)) in
+      ap (λ (l : List ℕ). get_or l m 0) begins ∙ mapped_at written (order_exponents p) later m (omega (arith, exponents_length p))
 
   pub bits_odd : (m : ℕ) → m < half p → get_or list m 0 ≡ bits_of p (order_constant p (2 * m + 1))
   unfolding order_exponents

@@ -1,21 +1,13 @@
 -- The depths of the powers of z, and what is left of the powers to write. Each power has a place of its own after z, so an entry set for one
 -- leaves those of the others as they were.
 -- Assumes nothing.
-use mathlib.Core.Path.{◌≡◌, sym, ◌∙◌}
-use mathlib.Core.Logic.{◌⊎◌, inl, inr}
+use Rattle.std.proofs.Common.{◌≡◌, sym, ap₂, ◌∙◌, ◌⊎◌, inl, inr, ◌≢◌, lt_of_not-le, List, ◌∷◌, map, ℕ, suc, ◌+◌, ◌-◌, ◌*◌, ◌/◌, ◌%◌, ◌≤◌, ◌<◌, arith, add-one, length, get_or, set, get_or-set_same, get_or-set_other}
 use native.Mathlib.Decide.{dec_le}
-use native.Mathlib.Nat.{lt_of_not-le}
-use mathlib.Core.List.{List, ◌∷◌, map}
-use Prim.Native.Nat.{ℕ, suc, ◌+◌, ◌-◌, ◌/◌, ◌%◌, ◌≤◌, ◌<◌}
-use native.Mathlib.Omega.{arith}
-use native.Mathlib.Numerals.{add-one}
-use lib.ListN.{length, get_or, set}
-use lib.Seq.{get_or-set_same, get_or-set_other}
 use Rattle.field.specs.Half.{half}
 use Rattle.field.specs.Logarithm.{clog}
 use Rattle.field.specs.Polynomials.{every_second}
 use Rattle.field.proofs.Logarithm.{clog_small}
-use Rattle.comparison.specs.OrderDigit.{ascending, power_of, power_count, power_gate}
+use Rattle.comparison.specs.OrderDigit.{ascending, next_odd, odd_exponents, power_of, power_count, power_gate}
 use Rattle.comparison.proofs.Powers.{gate_low, gate_high}
 use Rattle.powers.specs.Powers.{IsWritten, Deep}
 
@@ -56,51 +48,52 @@ place_within p i top = go (dec_le i (half p))
 -- ---- depths
 
 -- z stands at place 0 and has depth 0
-pub deep_start : (p : ℕ) (depths : List ℕ) → 3 ≤ p → get_or depths 0 0 ≡ 0 → Deep p depths 1
+pub deep_start : (p : ℕ) (depths : List ℕ) → 3 ≤ p → get_or depths 0 0 ≡ 0 → Deep p depths 2
 deep_start p depths three flat = record {
   known = λ i w l.
+      let one : i ≡ 1 = omega arith in
       let e : power_gate p 0 1 ≡ 0 = gate_low p 0 1 (omega arith) ∙ omega arith in
-      let here : power_gate p 0 i ≡ power_gate p 0 1 = omega arith in
-      let one : i ≡ 1 = place_same p i 1 w (omega arith, omega arith, inl (omega arith)) here in
       rw (one, e) (flat ∙ sym (clog_small 1 (omega arith)));
 }
 
 -- one power more
-pub deep_step : (p n i : ℕ) (depths : List ℕ) → IsWritten p i → power_gate p 0 i ≡ n → n < length depths → Deep p depths n
-    → Deep p (set depths n (clog i)) (n + 1)
-deep_step p n i depths w e l d = record { known = λ j wj lj. go j wj lj (dec_le n (power_gate p 0 j)) }
+pub deep_step : (p i : ℕ) (depths : List ℕ) → IsWritten p i → power_gate p 0 i < length depths → Deep p depths i
+    → Deep p (set depths (power_gate p 0 i) (clog i)) (i + 1)
+deep_step p i depths w l d = record { known = λ j wj lj. go j wj lj (dec_le i j) }
   where
-    go : (j : ℕ) → IsWritten p j → power_gate p 0 j < n + 1 → Dec (n ≤ power_gate p 0 j)
-        → get_or (set depths n (clog i)) (power_gate p 0 j) 0 ≡ clog j
-    go j wj lj (yes here) =
-        let same : power_gate p 0 j ≡ power_gate p 0 i = omega arith in
-        rw (place_same p j i wj w same, e) (get_or-set_same depths n (clog i) 0 l)
+    go : (j : ℕ) → IsWritten p j → j < i + 1 → Dec (i ≤ j) → get_or (set depths (power_gate p 0 i) (clog i)) (power_gate p 0 j) 0 ≡ clog j
+    go j wj lj (yes here) = let same : j ≡ i = omega arith in rw same (get_or-set_same depths (power_gate p 0 i) (clog i) 0 l)
     go j wj lj (no other) =
         let less = lt_of_not-le other in
-        get_or-set_other depths n (power_gate p 0 j) (clog i) 0 (λ same. absurd (omega arith)) ∙ d.known j wj less
+        get_or-set_other depths (power_gate p 0 i) (power_gate p 0 j) (clog i) 0
+        (λ same. absurd (omega (arith, place_same p i j w wj (omega arith)))) ∙ d.known j wj less
 
--- the entry of a power up to (p-1)/2
-deep_low : (p n j : ℕ) (depths : List ℕ) → 1 ≤ j → j ≤ half p → j ≤ n → Deep p depths n → get_or depths (j - 1) 0 ≡ clog j
+-- an exponent between, of which no power is written
+pub deep_skip : (p i : ℕ) (depths : List ℕ) → half p < i → i % 2 ≢ 1 → i ≢ p - 1 → Deep p depths i → Deep p depths (i + 1)
+deep_skip p i depths high even below d = record { known = λ j wj lj. go j wj lj (dec_le i j) }
+  where
+    go : (j : ℕ) → IsWritten p j → j < i + 1 → Dec (i ≤ j) → get_or depths (power_gate p 0 j) 0 ≡ clog j
+    go j wj lj (yes here) = absurd (not j wj.2 (omega arith))
+      where
+        not : (j : ℕ) → (j ≤ half p) ⊎ ((j % 2 ≡ 1) ⊎ (j ≡ p - 1)) → j ≡ i → ⊥
+        not j (inl low) same = omega arith
+        not j (inr (inl odd)) same = even (omega arith)
+        not j (inr (inr top)) same = below (omega arith)
+    go j wj lj (no other) = d.known j wj (lt_of_not-le other)
+
+-- the depth of a power up to (p-1)/2
+deep_low : (p n j : ℕ) (depths : List ℕ) → 1 ≤ j → j ≤ half p → j < n → Deep p depths n → get_or depths (j - 1) 0 ≡ clog j
 deep_low p n j depths one low l d =
     let e : power_gate p 0 j ≡ j - 1 = gate_low p 0 j low ∙ omega arith in
-    rw (← e) (d.known j (one, omega arith, inl low) (omega arith))
+    rw (← e) (d.known j (one, omega arith, inl low) l)
 
--- the powers of the halves of i stand before z^i
-halves_before : (p i : ℕ) → p % 2 ≡ 1 → 2 ≤ i → i ≤ p - 1 → ((i + 1) / 2 ≤ half p) × ((i + 1) / 2 ≤ power_gate p 0 i)
-halves_before p i odd two top = go (dec_le i (half p))
-  where
-    go : Dec (i ≤ half p) → ((i + 1) / 2 ≤ half p) × ((i + 1) / 2 ≤ power_gate p 0 i)
-    go (yes a) = omega (arith, gate_low p 0 i a)
-    go (no a) = omega (arith, gate_high p 0 i (lt_of_not-le a))
-
--- so their depths are known
-pub deep_halves : (p i : ℕ) (depths : List ℕ) → p % 2 ≡ 1 → 2 ≤ i → i ≤ p - 1 → Deep p depths (power_gate p 0 i)
+-- the powers of the halves of i are lower, so their depths are known
+pub deep_halves : (p i : ℕ) (depths : List ℕ) → p % 2 ≡ 1 → 2 ≤ i → i ≤ p - 1 → Deep p depths i
     → (get_or depths (i / 2 - 1) 0 ≡ clog (i / 2)) × (get_or depths ((i + 1) / 2 - 1) 0 ≡ clog ((i + 1) / 2))
-deep_halves p i depths odd two top d =
-    let before = halves_before p i odd two top in (
-      deep_low p _ (i / 2) depths (omega arith) (omega arith) (omega arith) d,
-      deep_low p _ ((i + 1) / 2) depths (omega arith) before.0 before.1 d,
-    )
+deep_halves p i depths odd two top d = (
+  deep_low p i (i / 2) depths (omega arith) (omega arith) (omega arith) d,
+  deep_low p i ((i + 1) / 2) depths (omega arith) (omega arith) (omega arith) d,
+)
 
 -- ---- what is left to write
 
@@ -110,9 +103,13 @@ low_cons z h i l =
     let e : h + 1 - i ≡ suc (h + 1 - (i + 1)) = omega arith in
     rw (e, add-one i)
 
-pub odd_cons : (z p i : ℕ) → i < p - 1 → map (power_of z) (every_second ((p - i) / 2) i) ≡ power_of z i ∷ map (power_of z) (every_second ((p - (i + 2)) / 2) (i + 2))
+-- the odd numbers from 2k + 1 on, below 2h
+abbrev pub odds : ℕ → ℕ → List ℕ
+odds h k = every_second (h - k) (2 * k + 1)
+
+pub odd_cons : (z h k : ℕ) → k < h → map (power_of z) (odds h k) ≡ power_of z (2 * k + 1) ∷ map (power_of z) (odds h (k + 1))
 unfolding every_second
-odd_cons z p i l =
-    let e : (p - i) / 2 ≡ suc ((p - (i + 2)) / 2) = omega arith in
-    let two : i + 2 ≡ suc (suc i) = omega arith in
-    rw (e, two)
+odd_cons z h k l =
+    let n : h - k ≡ suc (h - (k + 1)) = omega arith in
+    let two : 2 * (k + 1) + 1 ≡ suc (suc (2 * k + 1)) = omega arith in
+    rw (n, two)

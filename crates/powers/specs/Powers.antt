@@ -12,6 +12,6 @@ most_powers = 192
 abbrev pub IsWritten : ℕ → ℕ → Type 0
 IsWritten p i = (1 ≤ i) × (i ≤ p - 1) × ((i ≤ half p) ⊎ ((i % 2 ≡ 1) ⊎ (i ≡ p - 1)))
 
--- the first n entries, which are those of z and the powers after it: that of z^i is ceil(log2 i)
+-- the entries of z and the powers below z^n: that of z^i is ceil(log2 i)
 pub record Deep (p : ℕ) (depths : List ℕ) (n : ℕ) : Type 0 where
-  pub known : (i : ℕ) → IsWritten p i → power_gate p 0 i < n → get_or depths (power_gate p 0 i) 0 ≡ clog i
+  pub known : (i : ℕ) → IsWritten p i → i < n → get_or depths (power_gate p 0 i) 0 ≡ clog i

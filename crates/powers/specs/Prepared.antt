@@ -1,27 +1,25 @@
 -- What order digits go by, as it is lent to each of them, and what they ask.
-use Rattle.std.specs.Prelude.{◌≡◌, List, ◌++◌, map, ℕ, ◌+◌, ◌<◌, length}
+use Rattle.std.specs.Prelude.{◌≡◌, List, map, ℕ, ◌<◌, length, take}
 use Rattle.field.specs.Polynomials.{order_constants}
 use Rattle.circuit.specs.Constant.{bits_of}
 use Rattle.circuit.specs.Gate.{Gate}
 use Rattle.comparison.specs.OrderDigit.{power_count}
+use Rattle.powers.specs.declared.OrderTables.{OrderTables}
 use Rattle.powers.specs.Powers.{Deep}
 use Rattle.writer.specs.declared.Pen.{Pen}
-use Rattle.writer.specs.Modulus.{Modulus}
 use Rattle.writer.specs.Pen.{Room}
 
 -- a list that begins with the constants of p, as SCALEs have them
 pub record Constants (p : ℕ) (list : List ℕ) : Type 0 where
-  pub later : List ℕ
-  pub begins : list ≡ map (bits_of p) (order_constants p) ++ later
+  pub begins : take (length (order_constants p)) list ≡ map (bits_of p) (order_constants p)
 
 -- the constants of p, and the depths of z and its powers
-pub record Prepared (p : ℕ) (constants depths : List ℕ) : Type 0 where
-  pub scaled : Constants p constants
-  pub long : power_count p < length depths
-  pub deep : Deep p depths (power_count p + 1)
+pub record Prepared (p : ℕ) (tables : OrderTables) : Type 0 where
+  pub scaled : Constants p tables.constants
+  pub long : power_count p < length tables.depths
+  pub deep : Deep p tables.depths p
 
--- a table has room for the gates, p is a modulus, and what order digits go by is prepared
-pub record Provided (table : List ℕ) (pen : Pen) (gates : List Gate) (p : ℕ) (constants depths : List ℕ) : Type 0 where
+-- a table has room for the gates, and what order digits go by is prepared for p
+pub record Provided (table : List ℕ) (pen : Pen) (gates : List Gate) (p : ℕ) (tables : OrderTables) : Type 0 where
   pub room : Room table pen (length gates)
-  pub modulus : Modulus p
-  pub prepared : Prepared p constants depths
+  pub prepared : Prepared p tables

@@ -1,4 +1,4 @@
-// Writing the powers of an order digit's difference, and their depths.
+// Writing the powers of an order digit's difference, and the tables that order digits go by.
 #![tactic(auto)]
 
 ghost use Rattle.std.specs.Prelude.{◌≡◌, [], ◌∷◌, map, ◌+◌, ◌-◌, ◌/◌, ◌%◌, ◌≤◌, ◌<◌, length, get_or};
@@ -6,14 +6,42 @@ ghost use Rattle.field.specs.Byte.{byte_values};
 ghost use Rattle.field.specs.Half.{half as half_of};
 ghost use Rattle.circuit.specs.Table.{most_gates};
 ghost use Rattle.comparison.specs.OrderDigit.{ascending, odd_exponents, power_of, powers, power_count, power_gate};
-ghost use Rattle.writer.specs.Modulus.{Modulus};
 ghost use Rattle.writer.specs.Pen.{Wrote, Room, Moved};
 ghost use Rattle.powers.specs.Powers.{IsWritten, Deep};
+ghost use Rattle.powers.specs.Prepared.{Prepared};
 
-use writer::{Node, Pen};
+use arithmetic::Modulus;
+use constants::MOST_CONSTANTS;
+use writer::{Gate, Node, Pen};
 
 // Room for the depths of z and its powers, for any odd p that is a byte.
 pub const MOST_POWERS: usize = 192;
+
+// What order digits go by, the same for every digit: the constants of the order polynomial, as SCALEs have them, and the depths of z and
+// its powers. Entry k of the depths is that of gate z + k.
+#[derive(Clone, Copy, Debug, PartialEq, Eq)]
+pub struct OrderTables {
+    pub constants: [u16; MOST_CONSTANTS],
+    pub depths: [u16; MOST_POWERS],
+}
+
+impl OrderTables {
+    // Tables that hold nothing yet.
+    pub fn new() -> OrderTables {
+        OrderTables {
+            constants: [0; MOST_CONSTANTS],
+            depths: [0; MOST_POWERS],
+        }
+    }
+
+    // Fills the tables for a modulus.
+    pub fn prepare(&mut self, m: Modulus)
+        ensures { Prepared m.p self.new }
+    {
+        constants::put_order_constants(m, &mut self.constants);
+        put_power_depths(m, &mut self.depths);
+    }
+}
 
 // The power z^i, from those of its halves.
 fn put_power(table: &mut [u8], pen: Pen, z: u16, i: u16) -> Pen
@@ -23,7 +51,7 @@ fn put_power(table: &mut [u8], pen: Pen, z: u16, i: u16) -> Pen
 {
     let low = i / 2 - 1;
     let high = (i + 1) / 2 - 1;
-    writer::put_mul(table, pen, z + low, z + high)
+    writer::put_gate(table, pen, Gate::Mul(z + low, z + high))
 }
 
 // The powers z^i for i = 2 to h.
@@ -33,39 +61,35 @@ pub fn put_low_powers(table: &mut [u8], pen: Pen, z: u16, h: u16) -> Pen
     ensures moves { Moved pen (h - 1) result }
 {
     let mut last = pen;
-    let mut i: u16 = 2;
-    while i <= h {
+    for i in 2..h + 1 {
         last = put_power(table, last, z, i);
-        i += 1;
     }
     last
 }
 
-// The powers z^i for the odd i above (p-1)/2 to p-2.
-fn put_odd_powers(table: &mut [u8], pen: Pen, z: u16, p: u16) -> Pen
-    requires { Room table.old pen (half_of p / 2) × Modulus p × (pen.next ≡ z + half_of p) }
-    ensures wrote { Wrote table.old pen (map (power_of z) (odd_exponents p)) table.new result }
-    ensures moves { Moved pen (half_of p / 2) result }
+// The powers z^i for the odd i = 2k + 1 above (p-1)/2 to p-2.
+fn put_odd_powers(table: &mut [u8], pen: Pen, z: u16, m: Modulus) -> Pen
+    requires { Room table.old pen (half_of m.p / 2) × (pen.next ≡ z + half_of m.p) }
+    ensures wrote { Wrote table.old pen (map (power_of z) (odd_exponents m.p)) table.new result }
+    ensures moves { Moved pen (half_of m.p / 2) result }
 {
-    let half = (p - 1) / 2;
+    let half = (m.p - 1) / 2;
     let mut last = pen;
-    let mut i = half + 1 + half % 2;
-    while i < p - 1 {
-        last = put_power(table, last, z, i);
-        i += 2;
+    for k in (half + 1) / 2..half {
+        last = put_power(table, last, z, 2 * k + 1);
     }
     last
 }
 
 // All powers of z.
-pub fn put_powers(table: &mut [u8], pen: Pen, z: u16, p: u16) -> Pen
-    requires { Room table.old pen (power_count p) × Modulus p × (pen.next ≡ z + 1) }
-    ensures wrote { Wrote table.old pen (powers p z) table.new result }
-    ensures moves { Moved pen (power_count p) result }
+pub fn put_powers(table: &mut [u8], pen: Pen, z: u16, m: Modulus) -> Pen
+    requires { Room table.old pen (power_count m.p) × (pen.next ≡ z + 1) }
+    ensures wrote { Wrote table.old pen (powers m.p z) table.new result }
+    ensures moves { Moved pen (power_count m.p) result }
 {
-    let low = put_low_powers(table, pen, z, (p - 1) / 2);
-    let odd = put_odd_powers(table, low, z, p);
-    put_power(table, odd, z, p - 1)
+    let low = put_low_powers(table, pen, z, (m.p - 1) / 2);
+    let odd = put_odd_powers(table, low, z, m);
+    put_power(table, odd, z, m.p - 1)
 }
 
 // How far after z the power z^i stands.
@@ -80,55 +104,30 @@ fn power_place(p: u16, i: u16) -> u16
     half + (i / 2 - (half + 1) / 2)
 }
 
-// The depth of z^i at its place, after those of the powers before it: one more than the deeper of its halves'.
-fn put_power_depth(p: u16, i: u16, depths: &mut [u16])
-    requires modulus { Modulus p × (2 ≤ i) × IsWritten p i × (power_count p < length depths.old) }
-    requires deep { Deep p depths.old (power_gate p 0 i) }
-    ensures { Deep p depths.new (power_gate p 0 i + 1) }
+// The depth of z^i at its place, after those of the lower powers: one more than the deeper of its halves'.
+fn put_power_depth(m: Modulus, i: u16, depths: &mut [u16])
+    requires written { (2 ≤ i) × IsWritten m.p i × (power_count m.p < length depths.old) }
+    requires deep { Deep m.p depths.old i }
+    ensures { Deep m.p depths.new (i + 1) }
 {
     let low = i / 2 - 1;
     let high = (i + 1) / 2 - 1;
-    let depth = answer::deeper(depths[low as usize], depths[high as usize]) + 1;
-    depths[power_place(p, i) as usize] = depth;
+    let depth = depths[low as usize].max(depths[high as usize]) + 1;
+    depths[power_place(m.p, i) as usize] = depth;
 }
 
-// The depths of the powers z^i for i = 2 to (p-1)/2.
-fn put_low_depths(p: u16, depths: &mut [u16])
-    requires modulus { Modulus p × (power_count p < length depths.old) }
-    requires deep { Deep p depths.old 1 }
-    ensures { Deep p depths.new (half_of p) }
+// The depths of z and its powers: z^i for i = 2 to (p-1)/2, for the odd i above that, and for p-1.
+fn put_power_depths(m: Modulus, depths: &mut [u16])
+    requires { power_count m.p < length depths.old }
+    ensures { Deep m.p depths.new m.p }
 {
-    let half = (p - 1) / 2;
-    let mut i: u16 = 2;
-    while i <= half {
-        put_power_depth(p, i, depths);
-        i += 1;
-    }
-}
-
-// The depths of the powers z^i for the odd i above (p-1)/2 to p-2.
-fn put_odd_depths(p: u16, depths: &mut [u16])
-    requires modulus { Modulus p × (power_count p < length depths.old) }
-    requires deep { Deep p depths.old (half_of p) }
-    ensures { Deep p depths.new (power_count p) }
-{
-    let half = (p - 1) / 2;
-    let mut i = half + 1 + half % 2;
-    while i < p - 1 {
-        put_power_depth(p, i, depths);
-        i += 2;
-    }
-}
-
-// The depths of z and its powers, the same for every digit: entry k is that of gate z + k.
-pub fn put_power_depths(p: u16, depths: &mut [u16])
-    requires { Modulus p × (power_count p < length depths.old) }
-    ensures { Deep p depths.new (power_count p + 1) }
-{
+    let half = (m.p - 1) / 2;
     depths[0] = 0;
-    put_low_depths(p, depths);
-    put_odd_depths(p, depths);
-    put_power_depth(p, p - 1, depths);
+    for i in 2..m.p {
+        if i <= half || i % 2 == 1 || i == m.p - 1 {
+            put_power_depth(m, i, depths);
+        }
+    }
 }
 
 // The power z^i with its depth.

@@ -28,10 +28,11 @@ use Rattle.offer.specs.Digits.{order_digits, higher_digits}
 use Rattle.offer.specs.Offer.{step_table}
 use Rattle.offer.proofs.Sizes.{step_gates}
 use Rattle.card.specs.declared.CardHead.{CardHead}
-use Rattle.card.specs.Conditions.{conditions_of}
+use Rattle.card.specs.Conditions.{ReadAs, conditions_of}
 use Rattle.card.specs.Parts.{Summary, head_is}
 use Rattle.card.proofs.ReadAs.{Known, known_as}
 use Rattle.powers.specs.Prepared.{Prepared}
+use Rattle.powers.specs.declared.OrderTables.{OrderTables}
 use Rattle.draft.specs.Drawing.{table_for, Drawable}
 use Rattle.rating.specs.declared.OrderDigits.{OrderDigits}
 use Rattle.rating.specs.Rated.{rated, Searching}
@@ -42,10 +43,10 @@ told_by : (L G a h e b p q step : ℕ) (cs ds : List Condition) → a ≡ order_
     → L + (a * less_count p + h) ≡ b + (a * (step_less p step).count + h * e)
 told_by L G a h e b p q step cs ds all higher same prime tested ground law = rw (all, higher, tested, ground, same, prime) law
 
-module _ {bytes : List ℕ} {head : CardHead} {base : ℕ} {digits : OrderDigits} {equal : ℕ} {constants powers table : List ℕ} {step : ℕ}
-    (s : Searching bytes head base digits equal constants powers table) (is : IsStep head.prime step) where
+module _ {bytes : List ℕ} {head : CardHead} {base : ℕ} {digits : OrderDigits} {equal : ℕ} {tables : OrderTables} {step : ℕ} (read : ReadAs bytes head)
+    (s : Searching bytes head base digits equal tables) (is : IsStep head.prime step) where
   pub known : Known bytes head
-  known = known_as bytes head s.reads
+  known = known_as bytes head read
 
   abbrev pub card : Card
   card = known.card
@@ -74,17 +75,17 @@ module _ {bytes : List ℕ} {head : CardHead} {base : ℕ} {digits : OrderDigits
   table_is : table_for step card ≡ step_table card step
   table_is = ap (λ t. table_by t card) (by_step card.prime step step_is.0)
 
-  pub drawable : {count : ℕ} {lent : List ℕ} → count ≡ length (step_table card step).gates → count ≤ most_gates → length lent ≡ length table
-      → Drawable bytes (head_is head) step count lent constants powers
-  drawable {count} {lent} e few same = record {
+  pub drawable : {count : ℕ} {lent : List ℕ} → count ≡ length (step_table card step).gates → count ≤ most_gates → length lent ≡ 8 * (most_gates + 1)
+      → Drawable bytes (head_is head) step count lent tables
+  drawable {count} {lent} e few long = record {
     card = card;
     reads = known.reads;
     says = known.says;
     suits = record { low = step_is.1 };
     gates = e ∙ ap (λ (t : Table). length t.gates) (sym table_is);
     few = few;
-    room = omega (arith, e, few, same, s.room, ap (λ (t : Table). length t.gates) table_is);
-    ready = λ order. subst (λ (p : ℕ). Prepared p constants powers) prime_is s.prepared;
+    room = omega (arith, e, few, long, ap (λ (t : Table). length t.gates) table_is);
+    ready = λ order. subst (λ (p : ℕ). Prepared p tables) prime_is s.prepared;
   }
 
   -- ---- the rating, of whichever card the bytes are

@@ -1,5 +1,5 @@
 -- Step sizes as they are rated: the report on the table of each, and what rating goes by.
-use Rattle.std.specs.Prelude.{◌≡◌, List, ℕ, ◌+◌, ◌*◌, ◌≤◌, ltb, length}
+use Rattle.std.specs.Prelude.{◌≡◌, List, ℕ, ◌≤◌, ltb, length}
 use Rattle.answer.specs.Outcome.{Answer, refused, accepted, refuse}
 use Rattle.answer.specs.Report.{Report}
 use Rattle.digits.specs.Number.{most_digits}
@@ -11,8 +11,9 @@ use Rattle.query.specs.Reading.{read_card}
 use Rattle.query.specs.Whole.{table_of}
 use Rattle.offer.specs.Offer.{step_table}
 use Rattle.powers.specs.Prepared.{Prepared}
+use Rattle.powers.specs.declared.OrderTables.{OrderTables}
 use Rattle.card.specs.declared.CardHead.{CardHead}
-use Rattle.card.specs.Conditions.{ReadAs, conditions_of}
+use Rattle.card.specs.Conditions.{conditions_of}
 use Rattle.rating.specs.declared.OrderDigits.{OrderDigits}
 use Rattle.offer.specs.Digits.{order_digits, higher_digits}
 
@@ -22,14 +23,11 @@ rated card step = refuse (ltb most_gates (length (step_table card step).gates)) 
 
 -- ---- what rating a step size goes by
 
--- a card that was read, the gate count of its base table, its order digits, how many gates E of a digit has, what order digits go by,
--- and room for any table
-pub record Searching (bytes : List ℕ) (head : CardHead) (base : ℕ) (digits : OrderDigits) (equal : ℕ) (constants powers table : List ℕ) : Type 0 where
-  pub reads : ReadAs bytes head
+-- of a card that was read, the gate count of its base table, its order digits, how many gates E of a digit has, and what order digits go by
+pub record Searching (bytes : List ℕ) (head : CardHead) (base : ℕ) (digits : OrderDigits) (equal : ℕ) (tables : OrderTables) : Type 0 where
   pub ground : (card : Card) → read_card bytes ≡ accepted card → base ≡ length (table_of card).gates
   pub all : digits.all ≡ order_digits (conditions_of bytes)
   pub higher : digits.higher ≡ higher_digits (conditions_of bytes)
   pub few : (digits.all ≤ most_digits) × (digits.higher ≤ digits.all)
   pub tested : (equal ≡ (equality_test head.prime).count) × (equal ≤ head.prime)
-  pub prepared : Prepared head.prime constants powers
-  pub room : 8 * (most_gates + 1) ≤ length table
+  pub prepared : Prepared head.prime tables

@@ -1,12 +1,6 @@
 -- Depths gate by gate: those of the gates read so far, and what is left to read, give the depth of the last one.
 -- Assumes nothing.
-use mathlib.Core.Path.{◌≡◌, refl, ap}
-use mathlib.Core.List.{List, [], ◌∷◌, ◌++◌}
-use Prim.Native.Nat.{ℕ, zero, suc, ◌+◌, ◌-◌}
-use native.Mathlib.Omega.{arith}
-use native.Mathlib.Nat.{zero-add}
-use native.Mathlib.Numerals.{add-one}
-use lib.ListN.{length, drop, length-append}
+use Rattle.std.proofs.Common.{◌≡◌, refl, ap, List, [], ◌∷◌, ◌++◌, ℕ, zero, suc, ◌+◌, ◌-◌, arith, add-one, length, drop, length-append}
 use Rattle.answer.specs.Outcome.{Answer, refused, accepted, on_answer}
 use Rattle.circuit.specs.Depth.{depths}
 use Rattle.circuit.specs.Gate.{Gate}
@@ -14,7 +8,6 @@ use Rattle.circuit.specs.Meaning.{entry_of, interpret}
 use Rattle.circuit.specs.Reading.{read_gate, read_gates}
 use Rattle.circuit.specs.Table.{Head}
 use Rattle.gates.specs.GateDepth.{depth_of}
-use Rattle.reader.specs.Outline.{depth_in}
 
 -- the depth of the last of gates after others, whose depths are given
 abbrev pub last_depth : List ℕ → List Gate → ℕ
@@ -22,10 +15,6 @@ last_depth earlier gs = entry_of depths (interpret depths earlier gs) (length ea
 
 abbrev pub depth_after : List ℕ → Answer (List Gate) → Answer ℕ
 depth_after earlier read = on_answer read refused (λ gs. accepted (last_depth earlier gs))
-
-pub none_yet : (read : Answer (List Gate)) → depth_after [] read ≡ depth_in read
-none_yet (refused n) = refl
-none_yet (accepted gs) = ap accepted (rw (zero-add (length gs)))
 
 -- the depths, with that of one gate more
 abbrev pub deepened : List ℕ → Gate → List ℕ

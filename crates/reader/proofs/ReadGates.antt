@@ -1,14 +1,8 @@
 -- One turn of the loop over the gates: the gate that is read adds its depth, and what is left to read still gives the depth of the last one.
 -- Assumes nothing.
-use mathlib.Core.Path.{◌≡◌, sym, ap, subst, ◌∙◌}
-use mathlib.Core.List.{List, [], ◌∷◌, ◌++◌}
-use Prim.Native.Nat.{ℕ, zero, suc, ◌+◌, ◌-◌, ◌≤◌, ◌<◌, zero-le}
-use native.Mathlib.Omega.{arith}
+use Rattle.std.proofs.Common.{◌≡◌, sym, ap, subst, ◌∙◌, List, [], ◌∷◌, ◌++◌, ℕ, zero, suc, ◌+◌, ◌-◌, ◌≤◌, ◌<◌, arith, add-zero, add-one, length, take, drop, get_or, set, length-append, length-set, take-suc-set, length-take-le, get_or-take, get_or-append-add}
 use native.Mathlib.Decide.{dec_lt}
-use native.Mathlib.Nat.{add-zero, sub-zero}
-use native.Mathlib.Numerals.{add-one}
-use lib.ListN.{length, take, drop, get_or, set, length-append, length-set, get_or-append}
-use lib.Seq.{take-suc-set, length-take-le, get_or-take, get_or-append-add}
+use lib.ListN.{get_or-append}
 use Rattle.answer.specs.Outcome.{Answer, refused, accepted}
 use Rattle.answer.proofs.Outcome.{answered, was_refused, accepted_same}
 use Rattle.circuit.specs.Gate.{Gate}
@@ -19,10 +13,9 @@ use Rattle.circuit.proofs.Bounds.{depth_below}
 use Rattle.circuit.proofs.Fitting.{named}
 use Rattle.circuit.proofs.Reading.{says}
 use Rattle.gates.specs.GateDepth.{depth_of, depth_read, AreLow}
-use Rattle.reader.specs.Outline.{depth_in}
 use Rattle.circuit.proofs.Records.{one_less}
 use Rattle.records.proofs.Records.{record_at, lent_at, lent_is, next_record}
-use Rattle.reader.proofs.Depths.{depth_after, none_yet, deepened, next_gate, stops, ends}
+use Rattle.reader.proofs.Depths.{depth_after, deepened, next_gate, stops, ends}
 
 -- the depths, with one more that is no deeper than its number
 low_more : (earlier : List ℕ) (d : ℕ) → AreLow earlier → length earlier < most_gates → d ≤ length earlier → AreLow (earlier ++ (d ∷ []))
@@ -47,15 +40,6 @@ pub record Deepens (head : Head) (table : List ℕ) (count k : ℕ) (depths : Li
   pub long : count ≤ length depths
   pub low : AreLow (take k depths)
   pub goes : depth_after (take k depths) (read_gates head k (count - k) (record_at table k)) ≡ whole
-
-pub starts : (head : Head) (table : List ℕ) (count : ℕ) (depths : List ℕ) → count ≤ length depths
-    → Deepens head table count 0 depths (depth_in (read_gates head 0 count (drop 8 table)))
-starts head table count depths e = record {
-  most = zero-le;
-  long = e;
-  low = (omega arith, λ i. zero-le);
-  goes = rw sub-zero (none_yet (read_gates head 0 count (drop 8 table)));
-}
 
 -- all records are read
 pub finishes : (head : Head) (table : List ℕ) (count k : ℕ) (depths : List ℕ) (whole : Answer ℕ)

@@ -1,13 +1,10 @@
 -- What is known of a table once it is read, and how it is come by.
 use Rattle.std.specs.Prelude.{◌≡◌, List, ℕ, ◌+◌, ◌*◌, ◌%◌, ◌≤◌, length}
-use Rattle.answer.specs.Numbers.{refusal_number}
 use Rattle.answer.specs.Outcome.{Answer, refused, accepted, on_answer}
 use Rattle.circuit.specs.Depth as deep
 use Rattle.circuit.specs.Gate.{Gate}
 use Rattle.circuit.specs.Table.{Head, Table, most_gates}
 use Rattle.reader.specs.declared.Outline as declared
-use Rattle.reader.specs.declared.TableRead.{TableRead}
-use Rattle.reader.specs.declared.TableRead.TheVariants.{Read, Refused}
 
 -- the gate count, the weight of a square and the depth
 pub record Outline : Type 0 where
@@ -30,16 +27,7 @@ outline_in read = on_answer read refused (λ table. accepted (outline table))
 abbrev pub outline_of : declared.Outline → Outline
 outline_of told = record { gates = told.gates; weight = told.weight; depth = told.depth.0 }
 
--- the refusal's number, or the outline, for each case of the enum
-abbrev pub table_answer : TableRead → Answer Outline
-table_answer (Read told) = accepted (outline_of told)
-table_answer (Refused why) = refused (refusal_number why)
-
 -- ---- gates after a head
-
--- the most gates of a small table, whose depths go into an array that is quickly cleared
-abbrev pub few_gates : ℕ
-few_gates = 256
 
 -- what the functions that read gates ask: some gates and no more than a table may have, a record for each after the head, and a prime that is odd
 abbrev pub Readable : List ℕ → Head → ℕ → Type 0
@@ -48,7 +36,3 @@ Readable table head count = (1 ≤ count) × (count ≤ most_gates) × (8 * (cou
 -- the depth of gates that were read
 abbrev pub depth_in : Answer (List Gate) → Answer ℕ
 depth_in read = on_answer read refused (λ gates. accepted (deep.depth gates))
-
--- the outline of a table with these gates
-abbrev pub outline_after : Head → Answer (List Gate) → Answer Outline
-outline_after head read = on_answer read refused (λ gates. accepted (outline (record { head = head; gates = gates })))

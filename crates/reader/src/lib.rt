@@ -1,18 +1,21 @@
 // Reading a table: its head, then gate by gate, up to the first rule that is broken. What all operations on tables begin with.
 #![tactic(auto)]
 
-ghost use Rattle.std.specs.Prelude.{◌≡◌, ◌&&◌, ◌≤◌, length, drop};
+ghost use Rattle.std.specs.Prelude.{◌≡◌, ◌&&◌, ◌+◌, ◌*◌, ◌≤◌, ◌<◌, IfOk, length, drop};
+ghost use Rattle.answer.specs.Outcome.{accepted};
+ghost use Rattle.answer.specs.Settled.{answer_of};
 ghost use Rattle.digits.specs.Number.{wrong_count};
 ghost use Rattle.circuit.specs.Bytes.{wrong_mark};
 ghost use Rattle.circuit.specs.Reading.{read_gates, read_head, reading};
-ghost use Rattle.circuit.specs.Table.{both_mark, each_mark, wrong_slots, wrong_spare};
+ghost use Rattle.circuit.specs.Table.{both_mark, each_mark, wrong_slots, wrong_spare, most_gates};
 ghost use Rattle.gates.specs.GateDepth.{gate_answer};
 ghost use Rattle.records.specs.Head.{slots_is, head_is};
+ghost use Rattle.records.specs.Read.{gates_read};
 ghost use Rattle.reader.specs.HeadAnswer.{head_answer};
-ghost use Rattle.reader.specs.Outline.{few_gates, Readable, depth_in, outline_in, outline_after, table_answer};
+ghost use Rattle.reader.specs.Outline.{Readable, depth_in, outline_in, outline_of};
 
 use answer::{Depth, Refusal};
-use gates::GateRead;
+use gates::Place;
 use records::{
     BOTH_MARK, EACH_MARK, LEAST_WEIGHT, MOST_GATES, MOST_WEIGHT, RECORD, SlotCounts, TableHead,
 };
@@ -21,25 +24,42 @@ use records::{
 const FEW_GATES: usize = 256;
 
 // What is known of a table once it is read: its gate count, the weight of a square, and its depth.
-#[derive(Clone, Copy)]
+#[derive(Clone, Copy, Debug, PartialEq, Eq)]
 pub struct Outline {
     pub gates: u16,
     pub weight: u8,
     pub depth: Depth,
 }
 
-// The outline of a table, or why it is refused.
+// A table that was read: the bytes that begin with it, and its outline.
 #[derive(Clone, Copy)]
-pub enum TableRead {
-    Read(Outline),
-    Refused(Refusal),
+pub struct Table<'a> {
+    pub bytes: &'a [u8],
+    pub outline: Outline,
+    ghost outlined: { accepted (outline_of outline) ≡ outline_in (reading bytes.now) },
+    ghost counted: { gates_read (reading bytes.now) ≡ accepted outline.gates },
+    ghost some: { 1 ≤ outline.gates },
+    ghost room: { 8 * (outline.gates + 1) ≤ length bytes.now },
 }
 
-// The head of a table, or why it is refused.
+impl<'a> Table<'a> {
+    // The bytes from the record of gate number k on.
+    pub fn record(self, k: usize) -> &'a [u8]
+        requires { k < self.outline.gates }
+        ensures { (result.now ≡ drop (8 * (k + 1)) self.entry.bytes.now) × (8 ≤ length result.now) }
+    {
+        let at = RECORD * (k + 1);
+        &self.bytes[at..]
+    }
+}
+
+// A table whose head was read, with its gates still to read: the bytes that begin with it, its head and its gate count.
 #[derive(Clone, Copy)]
-enum HeadRead {
-    Read(TableHead),
-    Refused(Refusal),
+struct Unread<'a> {
+    bytes: &'a [u8],
+    head: TableHead,
+    count: usize,
+    ghost readable: { Readable bytes.now (head_is head) count },
 }
 
 // Whether a table opens with neither mark of a head.
@@ -54,7 +74,7 @@ fn lacks_head_mark(table: &[u8]) -> bool
 fn count_outside(n: u8) -> bool
     ensures { result ≡ wrong_count n }
 {
-    records::outside(arithmetic::wide(n), 1, digits::MOST_DIGITS)
+    records::outside(usize::from(n), 1, digits::MOST_DIGITS)
 }
 
 // Whether the slot count of a side is not 1 to 16.
@@ -78,14 +98,14 @@ fn spare_outside(slots: SlotCounts, spare: u8) -> bool
 }
 
 // The head of a table, or the first of its rules that is broken.
-fn read_head(table: &[u8]) -> HeadRead
+fn read_head(table: &[u8]) -> Result<TableHead, Refusal>
     ensures { head_answer result ≡ read_head table.now }
 {
     if table.len() < RECORD {
-        return HeadRead::Refused(Refusal::TableHeadTooShort);
+        return Err(Refusal::TableHeadTooShort);
     }
     if lacks_head_mark(table) {
-        return HeadRead::Refused(Refusal::WrongMark);
+        return Err(Refusal::WrongMark);
     }
     let head = records::head_at(table);
     let slots = head.slots;
@@ -93,96 +113,83 @@ fn read_head(table: &[u8]) -> HeadRead
     let wrong_slots = slots_outside(slots);
     let wrong_spare = spare_outside(slots, table[5]);
     if !arithmetic::is_listed(head.prime) {
-        return HeadRead::Refused(Refusal::PrimeNotListed);
+        return Err(Refusal::PrimeNotListed);
     }
-    if records::outside(arithmetic::wide(head.weight), LEAST_WEIGHT, MOST_WEIGHT) {
-        return HeadRead::Refused(Refusal::WeightOutOfRange);
+    if records::outside(usize::from(head.weight), LEAST_WEIGHT, MOST_WEIGHT) {
+        return Err(Refusal::WeightOutOfRange);
     }
     if wrong_slots {
-        return HeadRead::Refused(Refusal::SlotCount);
+        return Err(Refusal::SlotCount);
     }
     if wrong_spare {
-        return HeadRead::Refused(Refusal::SpareNotZero);
+        return Err(Refusal::SpareNotZero);
     }
     if records::outside(count, 1, MOST_GATES) {
-        return HeadRead::Refused(Refusal::GateCount);
+        return Err(Refusal::GateCount);
     }
     if table.len() < RECORD * (count + 1) {
-        return HeadRead::Refused(Refusal::TableTooShort);
+        return Err(Refusal::TableTooShort);
     }
-    HeadRead::Read(head)
+    Ok(head)
 }
 
-// The depth of the last of the first count gates, or the first of their rules that is broken. The depths of all go into depths.
-fn read_gates(table: &[u8], head: TableHead, count: usize, depths: &mut [u16]) -> GateRead
-    requires { Readable table.now (head_is head) count × (count ≤ length depths.old) }
-    ensures { gate_answer result ≡ depth_in (read_gates (head_is head) 0 count (drop 8 table.now)) }
-{
-    let last = count - 1;
-    let mut k = 0;
-    while k < count {
-        let at = RECORD * (k + 1);
-        match gates::read_gate(&table[at..], head, &depths[..k]) {
-            GateRead::Depth(depth) => {
-                depths[k] = depth;
-            }
-            GateRead::Refused(why) => return GateRead::Refused(why),
+impl<'a> Unread<'a> {
+    // The depth of the last gate, or the first of the gates' rules that is broken. The depths of all go into depths.
+    fn read_gates(self, depths: &mut [u16]) -> Result<u16, Refusal>
+        requires { self.count ≤ length depths.old }
+        ensures { gate_answer result ≡ depth_in (read_gates (head_is self.entry.head) 0 self.entry.count (drop 8 self.entry.bytes.now)) }
+    {
+        let last = self.count - 1;
+        for k in 0..self.count {
+            let at = RECORD * (k + 1);
+            let place = Place {
+                head: self.head,
+                earlier: &depths[..k],
+            };
+            depths[k] = place.read_gate(&self.bytes[at..])?;
         }
-        k += 1;
+        Ok(depths[last])
     }
-    GateRead::Depth(depths[last])
-}
 
-// The same with an array of depths that is quickly cleared, for the gates of a small table.
-fn read_few(table: &[u8], head: TableHead, count: usize) -> GateRead
-    requires { Readable table.now (head_is head) count × (count ≤ few_gates) }
-    ensures { gate_answer result ≡ depth_in (read_gates (head_is head) 0 count (drop 8 table.now)) }
-{
-    let mut depths = [0u16; FEW_GATES];
-    read_gates(table, head, count, &mut depths)
-}
-
-// The same with an array for as many gates as a table may have.
-fn read_many(table: &[u8], head: TableHead, count: usize) -> GateRead
-    requires { Readable table.now (head_is head) count }
-    ensures { gate_answer result ≡ depth_in (read_gates (head_is head) 0 count (drop 8 table.now)) }
-{
-    let mut depths = [0u16; MOST_GATES];
-    read_gates(table, head, count, &mut depths)
-}
-
-// The depth of the last gate, with room for the depths of all.
-fn read_depth(table: &[u8], head: TableHead, count: usize) -> GateRead
-    requires { Readable table.now (head_is head) count }
-    ensures { gate_answer result ≡ depth_in (read_gates (head_is head) 0 count (drop 8 table.now)) }
-{
-    if count <= FEW_GATES {
-        return read_few(table, head, count);
+    // The same with an array of its own for so many depths.
+    fn depth_within<const N: usize>(self) -> Result<u16, Refusal>
+        requires { (self.count ≤ N) × (N ≤ most_gates) }
+        ensures { gate_answer result ≡ depth_in (read_gates (head_is self.entry.head) 0 self.entry.count (drop 8 self.entry.bytes.now)) }
+    {
+        let mut depths = [0u16; N];
+        self.read_gates(&mut depths)
     }
-    read_many(table, head, count)
+
+    // The same with an array that is quickly cleared where the table is small.
+    fn depth(self) -> Result<u16, Refusal>
+        ensures { gate_answer result ≡ depth_in (read_gates (head_is self.entry.head) 0 self.entry.count (drop 8 self.entry.bytes.now)) }
+    {
+        if self.count <= FEW_GATES {
+            return self.depth_within::<FEW_GATES>();
+        }
+        self.depth_within::<MOST_GATES>()
+    }
 }
 
-// The outline of a table after its head.
-fn read_after(table: &[u8], head: TableHead, count: usize) -> TableRead
-    requires { Readable table.now (head_is head) count }
-    ensures { table_answer result ≡ outline_after (head_is head) (read_gates (head_is head) 0 count (drop 8 table.now)) }
+// The table that the bytes begin with, or the first rule that it breaks. Later bytes are not looked at.
+pub fn read_table(table: &[u8]) -> Result<Table<'_>, Refusal>
+    ensures answers { answer_of (λ read. outline_of read.outline) result ≡ outline_in (reading table.now) }
+    ensures lent { IfOk result (λ read. read.bytes.now ≡ table.now) }
 {
-    match read_depth(table, head, count) {
-        GateRead::Depth(depth) => TableRead::Read(Outline {
+    let head = read_head(table)?;
+    let count = records::u16_at(table, 6);
+    let unread = Unread {
+        bytes: table,
+        head,
+        count,
+    };
+    let depth = unread.depth()?;
+    Ok(Table {
+        bytes: table,
+        outline: Outline {
             gates: count as u16,
             weight: head.weight,
             depth: Depth(depth),
-        }),
-        GateRead::Refused(why) => TableRead::Refused(why),
-    }
-}
-
-// The outline of a table, or the first rule that it breaks. Later bytes are not looked at.
-pub fn read_table(table: &[u8]) -> TableRead
-    ensures { table_answer result ≡ outline_in (reading table.now) }
-{
-    match read_head(table) {
-        HeadRead::Read(head) => read_after(table, head, records::u16_at(table, 6)),
-        HeadRead::Refused(why) => TableRead::Refused(why),
-    }
+        },
+    })
 }

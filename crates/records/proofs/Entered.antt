@@ -1,13 +1,7 @@
 -- A number entered at places: each entry is that number, or as it was.
 -- Assumes nothing.
-use mathlib.Core.Path.{◌≡◌, refl, sym, ◌∙◌}
-use mathlib.Core.Bool.{Bool, true, false, ◌||◌}
-use mathlib.Core.List.{List, [], ◌∷◌}
-use Prim.Native.Nat.{ℕ, ◌<◌}
-use borrow.Author.Tests.{eqb-true, eqb-false}
-use lib.Dec.{eqb}
-use lib.ListN.{length, drop, get_or, set, length-set}
-use lib.Seq.{drop-set-lt, get_or-set_same, get_or-set_other}
+use Rattle.std.proofs.Common.{◌≡◌, refl, sym, ◌∙◌, Bool, true, false, ◌||◌, List, [], ◌∷◌, ℕ, ◌<◌, eqb-true, eqb, length, drop, get_or, set, length-set, drop-set-lt, get_or-set_same, get_or-set_other}
+use borrow.Author.Tests.{eqb-false}
 use Rattle.field.specs.Member.{member}
 use Rattle.circuit.specs.Every.{Every}
 use Rattle.circuit.proofs.LastUse.{or_else}

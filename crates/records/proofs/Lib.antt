@@ -1,6 +1,5 @@
 -- Laws that other crates cite.
 pub mod Records
-pub mod NoKind
 pub mod Operands
 pub mod Entered
 pub mod Read

@@ -1,12 +1,7 @@
 -- The operands that a record says, as many as its kind has: none, one or two, and where they lie.
 -- Assumes nothing.
-use mathlib.Core.Path.{◌≡◌, sym, ap, ◌∙◌}
-use mathlib.Core.List.{List, [], ◌∷◌}
-use Prim.Native.Nat.{ℕ, ◌<◌}
-use native.Mathlib.Omega.{arith}
+use Rattle.std.proofs.Common.{◌≡◌, sym, ap, ◌∙◌, List, [], ◌∷◌, ℕ, ◌<◌, arith, take, take_all}
 use native.Mathlib.Decide.{ℕ_discrete}
-use lib.ListN.{take}
-use lib.Seq.{take_all}
 use Rattle.circuit.specs.Bytes.{byte, u16_at}
 use Rattle.circuit.specs.Every.{Every}
 use Rattle.records.specs.Operands.{operands_of, operands_at}

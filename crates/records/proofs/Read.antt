@@ -1,9 +1,6 @@
 -- A table of count gates that was read: its gates are those of its records, each of which says what its gate reads.
 -- Assumes nothing.
-use mathlib.Core.Path.{◌≡◌, sym, ap, ◌∙◌}
-use mathlib.Core.List.{List}
-use Prim.Native.Nat.{ℕ, ◌+◌, ◌*◌, ◌≤◌}
-use lib.ListN.{length, drop}
+use Rattle.std.proofs.Common.{◌≡◌, sym, ap, ◌∙◌, List, ℕ, ◌+◌, ◌*◌, ◌≤◌, length, drop}
 use Rattle.answer.specs.Outcome.{accepted}
 use Rattle.answer.proofs.Outcome.{answered, accepted_same}
 use Rattle.field.proofs.Tests.{in_range}

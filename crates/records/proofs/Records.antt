@@ -1,12 +1,6 @@
 -- The records of a table as the loops meet them: the bytes from one record on, and from the next, and the gates that are left, of which one is next.
 -- Assumes nothing.
-use mathlib.Core.Path.{◌≡◌, ap₂, ◌∙◌}
-use mathlib.Core.List.{List, ◌∷◌}
-use Prim.Native.Nat.{ℕ, ◌+◌, ◌-◌, ◌*◌, ◌≤◌, ◌<◌}
-use native.Mathlib.Numerals.{add-one}
-use native.Mathlib.Omega.{arith}
-use lib.ListN.{length, drop}
-use lib.Seq.{drop-drop}
+use Rattle.std.proofs.Common.{◌≡◌, ap₂, ◌∙◌, List, ◌∷◌, ℕ, ◌+◌, ◌-◌, ◌*◌, ◌≤◌, ◌<◌, add-one, arith, length, drop, drop-drop}
 use Rattle.answer.specs.Outcome.{accepted}
 use Rattle.circuit.specs.Gate.{Gate}
 use Rattle.circuit.specs.Reading.{read_gate, read_gates}

@@ -7,7 +7,7 @@ use Prim.Native.Nat.{ℕ, ◌+◌, ◌*◌, ◌≤◌}
 use native.Mathlib.Omega.{arith}
 use borrow.Author.Tests.{ltb-false, not-true, not-false}
 use lib.Dec.{ltb}
-use lib.ListN.{length}
+use lib.ListN.{length, length-map, length-take}
 use Rattle.field.specs.Primes.{OddPrime, listed}
 use Rattle.field.proofs.Primes.{listed_is_odd_prime}
 use Rattle.field.proofs.Tests.{neither, both}
@@ -15,12 +15,11 @@ use Rattle.digits.specs.Number.{most_digits}
 use Rattle.circuit.specs.Table.{wrong_weight, most_gates}
 use Rattle.query.specs.Card.{most_conditions}
 use Rattle.filling.specs.State as filling
-use Rattle.tree.proofs.Factors.{length_factors}
+use Rattle.writer.specs.Nodes.{node_is}
 use Rattle.writer.specs.Pen.{Room}
 use Rattle.writer.specs.declared.Pen.{Pen}
 use Rattle.state.specs.State.{state_is, pen_of}
-use Rattle.state.specs.declared.BuildState.{BuildState}
-use Rattle.state.proofs.Arrays.{Typed, eight}
+use Rattle.state.specs.declared.build.BuildState.{BuildState}
 
 -- what the state of an open build keeps
 pub record Open (state : filling.BuildState) : Type 0 where
@@ -57,11 +56,10 @@ few_open state closed =
     ltb-false most_conditions state.count (not-true _ h.1)
 
 -- so it has as many outputs
-pub outputs_open : (state : BuildState) → Typed state → filling.is_closed (state_is state) ≡ false → length (state_is state).outputs ≡ state.count
-outputs_open state typed closed =
+pub outputs_open : (state : BuildState) → filling.is_closed (state_is state) ≡ false → length (state_is state).outputs ≡ state.count
+outputs_open state closed =
     let few = few_open state closed in
-    let long = eight state typed in
-    length_factors state.count state.outputs state.depths (omega (arith, few, long)) (omega (arith, few, long))
+    simp (length-map, length-take) (omega (arith, few, state.room))
 
 -- a pen after the gates so far has room for so many more, where the table has
 pub open_room : (state : filling.BuildState) (pen : Pen) (n : ℕ) (table : List ℕ) → filling.is_closed state ≡ false → pen ≡ pen_of state

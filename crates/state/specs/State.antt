@@ -1,15 +1,15 @@
 -- The build's state, as the code holds it, and what a condition more makes of it.
-use Rattle.std.specs.Prelude.{true, not, ◌&&◌, [], ◌∷◌, ◌++◌, ℕ, ◌+◌, ◌≤◌, ◌<◌, ltb, take}
+use Rattle.std.specs.Prelude.{true, not, ◌&&◌, [], ◌∷◌, ◌++◌, map, ℕ, ◌+◌, ◌≤◌, ◌<◌, ltb, take}
 use Rattle.digits.specs.Number.{most_digits}
 use Rattle.circuit.specs.Segment.{Node}
 use Rattle.circuit.specs.Table.{most_gates}
 use Rattle.filling.specs.State as filling
 use Rattle.query.specs.Card.{most_conditions}
-use Rattle.tree.specs.Factors.{nodes}
+use Rattle.writer.specs.Nodes.{node_is}
 use Rattle.writer.specs.declared.Pen.{Pen}
-use Rattle.state.specs.declared.BuildState.{BuildState}
+use Rattle.state.specs.declared.build.BuildState.{BuildState}
 
--- the state that the code's struct stands for: the outputs are the first count entries; a count that the arrays have no room for
+-- the state that the code's struct stands for: the outputs are the first count entries; a count that the array has no room for
 -- is left by no accepted calls, so no build was begun
 abbrev pub state_is : BuildState → filling.BuildState
 state_is state = record {
@@ -20,7 +20,7 @@ state_is state = record {
   gates = state.gates;
   products = state.products;
   squares = state.squares;
-  outputs = nodes (take state.count state.outputs) (take state.count state.depths);
+  outputs = map node_is (take state.count state.outputs);
 }
 
 -- a pen after the gates so far, which has counted their products and squares

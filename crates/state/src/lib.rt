@@ -1,14 +1,19 @@
 // The state of a build that is filled in condition by condition.
 #![tactic(auto)]
 
-ghost use Rattle.std.specs.Prelude.{◌≡◌, List, ℕ, ◌≤◌, length, take};
+ghost use Rattle.std.specs.Prelude.{◌≡◌, map};
 ghost use Rattle.filling.specs.State.{no_build, started, too_deep, is_closed};
-ghost use Rattle.tree.specs.Factors.{nodes};
 ghost use Rattle.writer.specs.Nodes.{node_is};
 ghost use Rattle.state.specs.State.{state_is, pen_of, grown, Growable};
 
+mod build;
+
+pub use build::BuildState;
+
+use card::MOST_CONDITIONS;
+use digits::MOST_DIGITS;
 use records::{LEAST_WEIGHT, MOST_WEIGHT};
-use writer::{Pen, Written};
+use writer::{Node, Pen, Written};
 
 // The most gates that a digit adds, with its share of joining and FLIP.
 const MOST_FOR_DIGIT: u32 = 445;
@@ -16,134 +21,90 @@ const MOST_FOR_DIGIT: u32 = 445;
 // The most levels of a condition.
 const MOST_LEVELS: u16 = 12;
 
-// Whether a build was begun, its prime and weight, how many conditions and slots were added, how many gates they have and how many
-// products and squares are among these, and the gate and the depth of each condition's output, of which the first count entries are in use.
-#[derive(Clone, Copy)]
-pub struct BuildState {
-    pub begun: bool,
-    pub prime: u8,
-    pub weight: u8,
-    pub count: u8,
-    pub slots: u8,
-    pub gates: u16,
-    pub products: u16,
-    pub squares: u16,
-    pub outputs: [u16; 8],
-    pub depths: [u16; 8],
+// Whether one of the outputs is deeper than a condition.
+fn is_deep(outputs: &[Node]) -> bool
+    ensures { result ≡ too_deep (map node_is outputs.now) }
+{
+    outputs.iter().any(|output| MOST_LEVELS < output.depth)
 }
 
-// At the start no build is open.
-pub fn no_build() -> BuildState
-    ensures { state_is result ≡ no_build }
-{
-    BuildState {
-        begun: false,
-        prime: 0,
-        weight: 0,
-        count: 0,
-        slots: 0,
-        gates: 0,
-        products: 0,
-        squares: 0,
-        outputs: [0; 8],
-        depths: [0; 8],
+impl BuildState {
+    // At the start no build is open.
+    pub fn none() -> BuildState
+        ensures { state_is result ≡ no_build }
+    {
+        BuildState {
+            begun: false,
+            prime: 0,
+            weight: 0,
+            count: 0,
+            slots: 0,
+            gates: 0,
+            products: 0,
+            squares: 0,
+            outputs: [Node { gate: 0, depth: 0 }; MOST_CONDITIONS],
+        }
     }
-}
 
-// A build with nothing added.
-pub fn start(prime: u8, weight: u8) -> BuildState
-    ensures { state_is result ≡ started prime weight }
-{
-    BuildState {
-        begun: true,
-        prime,
-        weight,
-        count: 0,
-        slots: 0,
-        gates: 0,
-        products: 0,
-        squares: 0,
-        outputs: [0; 8],
-        depths: [0; 8],
+    // A build with nothing added.
+    pub fn start(prime: u8, weight: u8) -> BuildState
+        ensures { state_is result ≡ started prime weight }
+    {
+        let mut state = BuildState::none();
+        state.begun = true;
+        state.prime = prime;
+        state.weight = weight;
+        state
     }
-}
 
-// Whether one of the first count depths is more than a condition has.
-fn is_deep(depths: &[u16], count: usize) -> bool
-    requires { count ≤ length depths.now }
-    ensures { (gates : List ℕ) → count ≤ length gates → result ≡ too_deep (nodes (take count gates) (take count depths.now)) }
-{
-    let mut k = 0;
-    while k < count {
-        if MOST_LEVELS < depths[k] {
+    // Whether no build is open: none was begun, or the state has a number that no accepted calls leave.
+    pub fn is_closed(&self) -> bool
+        ensures { result ≡ is_closed (state_is self.now) }
+    {
+        let count = usize::from(self.count);
+        if !self.begun || MOST_CONDITIONS < count {
             return true;
         }
-        k += 1;
+        if !arithmetic::is_listed(self.prime) {
+            return true;
+        }
+        if records::outside(usize::from(self.weight), LEAST_WEIGHT, MOST_WEIGHT) {
+            return true;
+        }
+        if MOST_DIGITS < usize::from(self.slots) {
+            return true;
+        }
+        if MOST_FOR_DIGIT * u32::from(self.slots) < u32::from(self.gates) {
+            return true;
+        }
+        if u32::from(self.gates) < u32::from(self.products) + u32::from(self.squares) {
+            return true;
+        }
+        is_deep(&self.outputs[..count])
     }
-    false
-}
 
-// Whether no build is open: none was begun, or the state has a number that no accepted calls leave.
-pub fn is_closed(state: BuildState) -> bool
-    ensures { result ≡ is_closed (state_is state) }
-{
-    if !state.begun {
-        return true;
+    // A pen that goes on after the gates so far.
+    pub fn pen(&self) -> Pen
+        ensures { result ≡ pen_of (state_is self.now) }
+    {
+        Pen {
+            next: self.gates,
+            products: u32::from(self.products),
+            squares: u32::from(self.squares),
+        }
     }
-    let count = arithmetic::wide(state.count);
-    if card::MOST_CONDITIONS < count {
-        return true;
-    }
-    if !arithmetic::is_listed(state.prime) {
-        return true;
-    }
-    if records::outside(arithmetic::wide(state.weight), LEAST_WEIGHT, MOST_WEIGHT) {
-        return true;
-    }
-    if digits::MOST_DIGITS < arithmetic::wide(state.slots) {
-        return true;
-    }
-    if MOST_FOR_DIGIT * (state.slots as u32) < state.gates as u32 {
-        return true;
-    }
-    if (state.gates as u32) < state.products as u32 + state.squares as u32 {
-        return true;
-    }
-    let depths = state.depths;
-    is_deep(&depths, count)
-}
 
-// A pen that goes on after the gates so far.
-pub fn pen_of(state: BuildState) -> Pen
-    ensures { result ≡ pen_of (state_is state) }
-{
-    Pen {
-        next: state.gates,
-        products: state.products as u32,
-        squares: state.squares as u32,
-    }
-}
-
-// The state with a condition more, of so many digits: the pen is that after its gates, and the node is its output.
-pub fn with_condition(state: BuildState, digits: u8, written: Written) -> BuildState
-    requires { Growable state digits written.pen }
-    ensures { state_is result ≡ grown (state_is state) digits written.pen (node_is written.node) }
-{
-    let at = arithmetic::wide(state.count);
-    let mut outputs = state.outputs;
-    let mut depths = state.depths;
-    outputs[at] = written.node.gate;
-    depths[at] = written.node.depth;
-    BuildState {
-        begun: true,
-        prime: state.prime,
-        weight: state.weight,
-        count: state.count + 1,
-        slots: state.slots + digits,
-        gates: written.pen.next,
-        products: written.pen.products as u16,
-        squares: written.pen.squares as u16,
-        outputs,
-        depths,
+    // Puts a condition more into the state, of so many digits: the pen is that after its gates, and the node is its output.
+    pub fn grow(&mut self, digits: u8, written: Written)
+        requires { Growable self.old digits written.pen }
+        ensures { state_is self.new ≡ grown (state_is self.old) digits written.pen (node_is written.node) }
+    {
+        self.outputs[usize::from(self.count)] = written.node;
+        self.begun = true;
+        self.count += 1;
+        self.slots += digits;
+        self.gates = written.pen.next;
+        self.products = written.pen.products as u16;
+        self.squares = written.pen.squares as u16;
     }
 }

@@ -1,10 +1,6 @@
 -- The tests of a step digit as they are written: the powers, the squares, the whole polynomial as one piece, and E.
 -- Assumes nothing.
-use mathlib.Core.Path.{◌≡◌, sym, ap, ap₂, ◌∙◌}
-use mathlib.Core.List.{List, map}
-use Prim.Native.Nat.{ℕ, suc, ◌+◌, ◌-◌}
-use native.Mathlib.Omega.{arith}
-use lib.ListN.{length, length-append}
+use Rattle.std.proofs.Common.{◌≡◌, sym, ap, ap₂, ◌∙◌, List, map, ℕ, suc, ◌+◌, ◌-◌, arith, length, length-append}
 use Rattle.circuit.specs.Gate.{Gate}
 use Rattle.comparison.specs.Bits.{bits}
 use Rattle.comparison.specs.Difference.{z_gate}

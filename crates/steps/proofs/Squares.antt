@@ -1,21 +1,17 @@
 -- The squares that are left to write.
 -- Assumes nothing.
-use mathlib.Core.Path.{◌≡◌}
-use mathlib.Core.List.{[], ◌∷◌}
-use Prim.Native.Nat.{ℕ, suc, ◌+◌, ◌-◌, ◌≤◌, ◌<◌}
-use native.Mathlib.Omega.{arith}
+use Rattle.std.proofs.Common.{◌≡◌, [], ◌∷◌, ℕ, suc, ◌+◌, ◌-◌, ◌≤◌, ◌<◌, arith}
 use Rattle.circuit.specs.Gate.{Mul}
 use Rattle.step.specs.Powers.{squares_from}
 
--- i of n are written, and gate number k is the next
-pub squares_cons : (n i k : ℕ) → i < n → 1 ≤ k
-    → squares_from (n - i) (k - 1) ≡ Mul (k - 1) (k - 1) ∷ squares_from (n - (i + 1)) (k + 1 - 1)
+-- i of n are written, the first of gate g
+pub squares_cons : (n i g : ℕ) → i < n → squares_from (n - i) (g + i) ≡ Mul (g + i) (g + i) ∷ squares_from (n - (i + 1)) (g + (i + 1))
 unfolding squares_from
-squares_cons n i k l some =
+squares_cons n i g l =
     let e : n - i ≡ suc (n - (i + 1)) = omega arith in
-    let next : k + 1 - 1 ≡ suc (k - 1) = omega arith in
+    let next : g + (i + 1) ≡ suc (g + i) = omega arith in
     rw (e, next)
 
-pub squares_none : (n i k : ℕ) → n ≤ i → squares_from (n - i) (k - 1) ≡ []
+pub squares_none : (n i g : ℕ) → n ≤ i → squares_from (n - i) g ≡ []
 unfolding squares_from
-squares_none n i k l = let e : n - i ≡ 0 = omega arith in rw e
+squares_none n i g l = let e : n - i ≡ 0 = omega arith in rw e

@@ -4,6 +4,7 @@
 use mathlib.Core.Path.{◌≡◌, refl, sym, ap, subst, ◌∙◌}
 use mathlib.Core.List.{List}
 use Prim.Native.Nat.{ℕ, ◌≤◌}
+use Rattle.std.specs.Prelude.{Option, Some, Result, Err}
 use borrow.Author.Tests.{ltb-false}
 use lib.Dec.{ltb}
 use lib.ListN.{length}
@@ -26,30 +27,27 @@ use Rattle.card.specs.declared.CardHead.{CardHead}
 use Rattle.card.specs.Conditions.{ReadAs}
 use Rattle.card.specs.Parts.{Summary, summary, head_is}
 use Rattle.card.proofs.ReadAs.{known_as}
-use Rattle.chooser.specs.declared.Best.{Best}
-use Rattle.chooser.specs.declared.Best.TheVariants.{Chosen}
 use Rattle.chooser.specs.declared.Rated.{Rated}
 use Rattle.chooser.specs.Kept.{choice_is, Kept}
 use Rattle.within.specs.declared.Offered.{Offered}
-use Rattle.within.specs.declared.Offered.TheVariants.{Refused}
 use Rattle.within.specs.Handed.{read_plain_summary, Leaves}
 
 -- the choice that the definition makes of a card, with the report on its table
-abbrev pub ChosenOf : List ℕ → ℕ → Best → Type 0
+abbrev pub ChosenOf : List ℕ → ℕ → Option Rated → Type 0
 ChosenOf bytes cap best = (card : Card) → read_card bytes ≡ accepted card → (choice_is best ≡ best_step cap card) × Kept card best
 
 module _ (bytes : List ℕ) (cap : ℕ) where
   -- ---- what the chosen step size is
 
-  pub chosen_known : (best : Best) (rated : Rated) → best ≡ Chosen rated → ChosenOf bytes cap best → (card : Card) → read_card bytes ≡ accepted card
+  pub chosen_known : (best : Option Rated) (rated : Rated) → best ≡ Some rated → ChosenOf bytes cap best → (card : Card) → read_card bytes ≡ accepted card
       → (report_of rated.told ≡ report (step_table card rated.step)) × (length (step_table card rated.step).gates ≤ most_gates)
   chosen_known best rated is h card e =
-      let kept : Kept card (Chosen rated) = subst (Kept card) is (h card e).1 in
+      let kept : Kept card (Some rated) = subst (Kept card) is (h card e).1 in
       let answer : Answer Report → Answer Report = λ r. r in
       let few = passed answer (ltb most_gates (length (step_table card rated.step).gates)) (refused 14) _ refl kept in
       (sym (accepted_same few.1), ltb-false _ _ few.0)
 
-  pub chosen_step : (head : CardHead) (best : Best) (rated : Rated) → ReadAs bytes head → best ≡ Chosen rated → ChosenOf bytes cap best
+  pub chosen_step : (head : CardHead) (best : Option Rated) (rated : Rated) → ReadAs bytes head → best ≡ Some rated → ChosenOf bytes cap best
       → IsStep head.prime rated.step
   chosen_step head best rated read is h =
       let known = known_as bytes head read in
@@ -60,8 +58,8 @@ module _ (bytes : List ℕ) (cap : ℕ) where
 
   -- ---- what is left
 
-  pub by_choice : (best : Best) (choice : Choice) → choice_is best ≡ choice → ChosenOf bytes cap best → (card : Card) → read_card bytes ≡ accepted card
-      → (answer : Offered) (first second first' second' : List ℕ) → Leaves (offer_by cap card first second choice) answer first' second'
+  pub by_choice : (best : Option Rated) (choice : Choice) → choice_is best ≡ choice → ChosenOf bytes cap best → (card : Card) → read_card bytes ≡ accepted card
+      → (answer : Result Offered Refusal) (first second first' second' : List ℕ) → Leaves (offer_by cap card first second choice) answer first' second'
       → Leaves (offer_by cap card first second (best_step cap card)) answer first' second'
   by_choice best choice is h card e answer first second first' second' l =
       subst (λ (d : Choice). Leaves (offer_by cap card first second d) answer first' second') (sym is ∙ (h card e).0) l
@@ -79,7 +77,7 @@ module _ (bytes first second : List ℕ) (cap : ℕ) where
   pub plain_read : (head : CardHead) → accepted (head_is head) ≡ read_plain_summary bytes → ReadAs bytes head
   plain_read head e = let plain = plain_card head e in rw plain.2 (ap accepted (sym plain.3))
 
-  pub plain_leaves : (head : CardHead) (answer : Offered) (first' second' : List ℕ) → accepted (head_is head) ≡ read_plain_summary bytes
+  pub plain_leaves : (head : CardHead) (answer : Result Offered Refusal) (first' second' : List ℕ) → accepted (head_is head) ≡ read_plain_summary bytes
       → ((card : Card) → read_card bytes ≡ accepted card → Leaves (offer_by cap card first second (best_step cap card)) answer first' second')
       → Leaves (offering bytes cap first second) answer first' second'
   plain_leaves head answer first' second' e h =
@@ -88,6 +86,6 @@ module _ (bytes first second : List ℕ) (cap : ℕ) where
 
   -- a card that is refused leaves both tables as they are
   pub plain_refused : (why : Refusal) → refused (refusal_number why) ≡ read_plain_summary bytes
-      → Leaves (offering bytes cap first second) (Refused why) first second
+      → Leaves (offering bytes cap first second) (Err why) first second
   plain_refused why e =
       rw (was_refused (refusal_number why) (read_plain bytes) summary e) (record { answers = refl; one = refl; two = refl })

@@ -4,6 +4,7 @@
 use mathlib.Core.Path.{◌≡◌, refl, sym, ap, ◌∙◌}
 use mathlib.Core.List.{List}
 use Prim.Native.Nat.{ℕ, ◌+◌, ◌*◌}
+use Rattle.std.specs.Prelude.{Ok, Err}
 use lib.ListN.{length, take}
 use lib.Seq.{take_at}
 use Rattle.answer.specs.Outcome.{Answer, refused, accepted, on_answer}
@@ -40,6 +41,6 @@ module _ (bytes first second : List ℕ) (cap : ℕ) where
       ap (take (8 * (told.gates + 1))) part.begins ∙ take_at (offering bytes cap first second).part _ (8 * (told.gates + 1)) size
 
 pub part_back : PartBack
-part_back bytes first second cap (offered.First told) a = told_part bytes first second cap First told (sym a)
-part_back bytes first second cap (offered.Second told) a = told_part bytes first second cap Second told (sym a)
-part_back bytes first second cap (offered.Refused why) a = sym (offer_keeps bytes first second cap _ (sym a)).2
+part_back bytes first second cap (Ok (offered.First told)) a = told_part bytes first second cap First told (sym a)
+part_back bytes first second cap (Ok (offered.Second told)) a = told_part bytes first second cap Second told (sym a)
+part_back bytes first second cap (Err why) a = sym (offer_keeps bytes first second cap _ (sym a)).2

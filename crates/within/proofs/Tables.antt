@@ -4,6 +4,7 @@
 use mathlib.Core.Path.{◌≡◌, refl, sym, ap, subst, ◌∙◌}
 use mathlib.Core.Bool.{true, false}
 use mathlib.Core.List.{List}
+use Rattle.std.specs.Prelude.{Ok, Err}
 use Prim.Native.Nat.{ℕ, zero, suc, ◌+◌, ◌*◌, ◌≤◌, ◌<◌, zero-le}
 use native.Mathlib.Omega.{arith}
 use borrow.Author.Tests.{ltb-false, lt-leb, le-leb}
@@ -28,11 +29,12 @@ use Rattle.card.specs.declared.CardHead.{CardHead}
 use Rattle.card.specs.Conditions.{ReadAs, conditions_of}
 use Rattle.card.specs.Parts.{Summary, head_is}
 use Rattle.card.proofs.ReadAs.{known_as}
+use Rattle.powers.specs.declared.OrderTables.{OrderTables}
 use Rattle.draft.specs.Conditions.{Ready}
 use Rattle.draft.specs.Drawing.{table_for, Drawable}
 use Rattle.within.specs.declared.Offered.{Offered}
-use Rattle.within.specs.declared.Offered.TheVariants.{First, Refused}
-use Rattle.within.specs.Handed.{handed_answer, Leaves}
+use Rattle.within.specs.declared.Offered.TheVariants.{First}
+use Rattle.within.specs.Handed.{handed, Leaves}
 
 -- ---- the base table alone
 
@@ -43,18 +45,18 @@ module _ (cap : ℕ) (base : Table) (told : declared.Report) (is : report_of tol
   room_told : 8 * (told.gates + 1) ≡ table_room base
   room_told = ap (λ (r : Report). 8 * (r.gates + 1)) is
 
-  pub too_deep : cap < told.depth.0 → Leaves (base_alone cap base first second) (Refused DepthAboveCap) first second
+  pub too_deep : cap < told.depth.0 → Leaves (base_alone cap base first second) (Err DepthAboveCap) first second
   too_deep l = rw (lt-leb (report base).depth cap (subst (λ (d : ℕ). cap < d) depth_told l)) (record { answers = refl; one = refl; two = refl })
 
   fits : told.depth.0 ≤ cap → leb (report base).depth cap ≡ true
   fits l = le-leb (report base).depth cap (subst (λ (d : ℕ). d ≤ cap) depth_told l)
 
   pub no_room : told.depth.0 ≤ cap → ltb (length first) (8 * (told.gates + 1)) ≡ true
-      → Leaves (base_alone cap base first second) (Refused TableBufferTooSmall) first second
+      → Leaves (base_alone cap base first second) (Err TableBufferTooSmall) first second
   no_room l s = rw (fits l, subst (λ (n : ℕ). ltb (length first) n ≡ true) room_told s) (record { answers = refl; one = refl; two = refl })
 
   pub laid : {first' : List ℕ} → told.depth.0 ≤ cap → ltb (length first) (8 * (told.gates + 1)) ≡ false → first' ≡ laid_over base first
-      → Leaves (base_alone cap base first second) (First told) first' second
+      → Leaves (base_alone cap base first second) (Ok (First told)) first' second
   laid l s e =
       rw (fits l, subst (λ (n : ℕ). ltb (length first) n ≡ false) room_told s)
       (record { answers = ap (λ (r : Report). accepted (record { which = offer.First; told = r })) is; one = e; two = refl })
@@ -70,21 +72,21 @@ module _ (cap : ℕ) (base other : Table) (told step : declared.Report) (is : re
   room_second = ap (λ (r : Report). 8 * (r.gates + 1)) so
 
   pub no_room_first : ltb (length first) (8 * (told.gates + 1)) ≡ true
-      → Leaves (both_tables cap base other first second) (Refused TableBufferTooSmall) first second
+      → Leaves (both_tables cap base other first second) (Err TableBufferTooSmall) first second
   no_room_first s = rw (subst (λ (n : ℕ). ltb (length first) n ≡ true) room_first s) (record { answers = refl; one = refl; two = refl })
 
   pub no_room_second : ltb (length first) (8 * (told.gates + 1)) ≡ false → ltb (length second) (8 * (step.gates + 1)) ≡ true
-      → Leaves (both_tables cap base other first second) (Refused TableBufferTooSmall) first second
+      → Leaves (both_tables cap base other first second) (Err TableBufferTooSmall) first second
   no_room_second s t =
       rw (subst (λ (n : ℕ). ltb (length first) n ≡ false) room_first s, subst (λ (n : ℕ). ltb (length second) n ≡ true) room_second t)
       (record { answers = refl; one = refl; two = refl })
 
   pub both_laid : {first' second' : List ℕ} (answer : Offered) → ltb (length first) (8 * (told.gates + 1)) ≡ false
       → ltb (length second) (8 * (step.gates + 1)) ≡ false → first' ≡ laid_over base first → second' ≡ laid_over other second
-      → handed_answer answer ≡ accepted (handed_of cap base other) → Leaves (both_tables cap base other first second) answer first' second'
+      → handed answer ≡ handed_of cap base other → Leaves (both_tables cap base other first second) (Ok answer) first' second'
   both_laid answer s t e f a =
       rw (subst (λ (n : ℕ). ltb (length first) n ≡ false) room_first s, subst (λ (n : ℕ). ltb (length second) n ≡ false) room_second t)
-      (record { answers = a; one = e; two = f })
+      (record { answers = ap accepted a; one = e; two = f })
 
 -- ---- which of the two is handed back
 
@@ -98,21 +100,21 @@ module _ (cap : ℕ) (base other : Table) (told step : Report) (is : told ≡ re
   within_cap : told.depth ≤ cap → leb (report base).depth cap ≡ true
   within_cap l = le-leb (report base).depth cap (subst (λ (r : Report). r.depth ≤ cap) is l)
 
-  pub takes_first : told.depth ≤ cap → told.cost ≤ step.cost → accepted (first_of told) ≡ accepted (handed_of cap base other)
+  pub takes_first : told.depth ≤ cap → told.cost ≤ step.cost → first_of told ≡ handed_of cap base other
   takes_first d l =
       let cheap : leb (report base).cost (report other).cost ≡ true =
       le-leb (report base).cost (report other).cost (subst (λ (r : Report). r.cost ≤ (report other).cost) is (subst (λ (r : Report). told.cost ≤ r.cost) so l)) in
-      rw (within_cap d, cheap) (ap (λ (r : Report). accepted (first_of r)) is)
+      rw (within_cap d, cheap) (ap (λ (r : Report). first_of r) is)
 
-  pub takes_cheaper : told.depth ≤ cap → step.cost < told.cost → accepted (second_of step) ≡ accepted (handed_of cap base other)
+  pub takes_cheaper : told.depth ≤ cap → step.cost < told.cost → second_of step ≡ handed_of cap base other
   takes_cheaper d l =
       let dear : leb (report base).cost (report other).cost ≡ false =
       lt-leb (report base).cost (report other).cost (subst (λ (r : Report). (report other).cost < r.cost) is (subst (λ (r : Report). r.cost < told.cost) so l)) in
-      rw (within_cap d, dear) (ap (λ (r : Report). accepted (second_of r)) so)
+      rw (within_cap d, dear) (ap (λ (r : Report). second_of r) so)
 
-  pub takes_within : cap < told.depth → accepted (second_of step) ≡ accepted (handed_of cap base other)
+  pub takes_within : cap < told.depth → second_of step ≡ handed_of cap base other
   takes_within l =
-      rw (lt-leb (report base).depth cap (subst (λ (r : Report). cap < r.depth) is l)) (ap (λ (r : Report). accepted (second_of r)) so)
+      rw (lt-leb (report base).depth cap (subst (λ (r : Report). cap < r.depth) is l)) (ap (λ (r : Report). second_of r) so)
 
 -- ---- before a table is written
 
@@ -126,12 +128,12 @@ pub base_told : (bytes : List ℕ) (told : declared.Report) (card : Card) → ac
     → read_card bytes ≡ accepted card → report_of told ≡ report (table_of card)
 base_told bytes told card f e = accepted_same (rw e at f)
 
-module _ (bytes lent constants powers : List ℕ) (head : CardHead) (read : ReadAs bytes head)
-    (ready : Ready head.prime (conditions_of bytes) constants powers) where
+module _ (bytes lent : List ℕ) (tables : OrderTables) (head : CardHead) (read : ReadAs bytes head)
+    (ready : Ready head.prime (conditions_of bytes) tables) where
   -- with any step size, or none
   drawable : (step count : ℕ) → Suits head.prime step
       → ((card : Card) → read_card bytes ≡ accepted card → (count ≡ length (table_for step card).gates) × (count ≤ most_gates))
-      → ltb (length lent) (8 * (count + 1)) ≡ false → Drawable bytes (head_is head) step count lent constants powers
+      → ltb (length lent) (8 * (count + 1)) ≡ false → Drawable bytes (head_is head) step count lent tables
   drawable step count suits counted room =
       let known = known_as bytes head read in
       let many = counted known.card known.reads in
@@ -144,11 +146,11 @@ module _ (bytes lent constants powers : List ℕ) (head : CardHead) (read : Read
         few = many.1;
         room = subst (λ (n : ℕ). 8 * (n + 1) ≤ length lent) many.0 (ltb-false _ _ room);
         ready =
-            subst (λ (s : Summary). Ready s.prime known.card.conditions constants powers) known.says (rw known.conditions at ready);
+            subst (λ (s : Summary). Ready s.prime known.card.conditions tables) known.says (rw known.conditions at ready);
       }
 
   pub base_drawable : (told : declared.Report) → accepted (report_of told) ≡ forecasting bytes → ltb (length lent) (8 * (told.gates + 1)) ≡ false
-      → Drawable bytes (head_is head) 0 told.gates lent constants powers
+      → Drawable bytes (head_is head) 0 told.gates lent tables
   base_drawable told f room =
       drawable 0 told.gates (record { low = zero-le })
       (λ card e. let many : told.gates ≡ length (table_of card).gates = ap (λ (r : Report). r.gates) (base_told bytes told card f e) in
@@ -157,7 +159,7 @@ module _ (bytes lent constants powers : List ℕ) (head : CardHead) (read : Read
 
   pub step_drawable : (told : declared.Report) (step : ℕ) → IsStep head.prime step
       → ((card : Card) → read_card bytes ≡ accepted card → (report_of told ≡ report (step_table card step)) × (length (step_table card step).gates ≤ most_gates))
-      → ltb (length lent) (8 * (told.gates + 1)) ≡ false → Drawable bytes (head_is head) step told.gates lent constants powers
+      → ltb (length lent) (8 * (told.gates + 1)) ≡ false → Drawable bytes (head_is head) step told.gates lent tables
   step_drawable told step is known room =
       drawable step told.gates (record { low = is.1 })
       (λ card e. let many : told.gates ≡ length (step_table card step).gates = ap (λ (r : Report). r.gates) (known card e).0 in

@@ -1,10 +1,6 @@
 -- Laws of what remains: at first all, and after some gates the later ones.
 -- Assumes nothing.
-use mathlib.Core.Path.{◌≡◌, refl, subst}
-use mathlib.Core.List.{List, ◌++◌}
-use Prim.Native.Nat.{ℕ}
-use native.Mathlib.Omega.{arith}
-use lib.ListN.{length-append}
+use Rattle.std.proofs.Common.{◌≡◌, refl, subst, List, ◌++◌, ℕ, length-append, arith}
 use Rattle.circuit.specs.Gate.{Gate}
 use Rattle.writer.specs.declared.Pen.{Pen}
 use Rattle.writer.specs.Pen.{Wrote}

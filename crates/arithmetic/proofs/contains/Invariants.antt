@@ -1,9 +1,6 @@
-use Rattle.std.proofs.Common.{◌≡◌, ◌||◌, ◌-◌, length, drop}
+use Rattle.std.proofs.Common.{◌≡◌, ◌||◌, drop}
 use Rattle.field.specs.Member.{member}
 use Rattle.arithmetic.proofs.contains.Given as goal
 
-abbrev pub invariant-loop-place : goal.invariant-loop-place
-invariant-loop-place l = (l.found || member l.x (drop l.place l.list)) ≡ member l.x l.list
-
-abbrev pub decreases-loop-place : goal.decreases-loop-place
-decreases-loop-place l = length l.list - l.place
+abbrev pub invariant-loop-entry : goal.invariant-loop-entry
+invariant-loop-entry l = (l.found || member l.x (drop l.entry-index l.list)) ≡ member l.x l.list

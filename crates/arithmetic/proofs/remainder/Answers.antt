@@ -8,4 +8,4 @@ unfolding residue
 returns-then-p-eq0 c = rw c.if-p-eq0.true
 
 pub returns : goal.returns
-returns c = sym (residue_is _ _ (omega arith))
+returns c = rw c.from.ensures (sym (residue_is _ _ (omega arith)))

@@ -8,4 +8,6 @@ unfolding residue
 returns-then-p-eq0 c = rw c.if-p-eq0.true
 
 pub returns : goal.returns
-returns c = c.remainder.ensures ∙ residue_is _ _ (omega arith) ∙ sym (sub_mod_is _ _ _ (omega arith))
+returns c =
+    let remainder = rw (c.from.ensures, c.from-2.ensures, c.from-3.ensures) at c.remainder.ensures in
+    remainder ∙ residue_is _ _ (omega arith) ∙ sym (sub_mod_is _ _ _ (omega arith))

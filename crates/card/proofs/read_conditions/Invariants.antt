@@ -1,13 +1,11 @@
 -- `card::read_conditions` meets its contract. The invariant is `AddsUp`: the sums over the k records read so far,
--- with those over the records that are left to read, give the whole answer. The measure is what is left of count.
+-- with those over the records that are left to read, give the whole answer.
 -- Assumes nothing.
-use Prim.Native.Nat.{◌-◌}
 use Rattle.card.specs.Parts.{form_is, read_sums}
 use Rattle.card.proofs.Conditions.{AddsUp}
 use Rattle.card.proofs.read_conditions.Given as goal
 
 abbrev pub invariant-loop-k : goal.invariant-loop-k
-invariant-loop-k l = AddsUp (form_is l.form) l.prime l.records l.count l.k (record { slots = l.slots; weights = l.weights; left = l.left }) (read_sums (form_is l.form) l.prime l.count l.records)
-
-abbrev pub decreases-loop-k : goal.decreases-loop-k
-decreases-loop-k l = l.count - l.k
+invariant-loop-k l =
+    AddsUp (form_is l.form) l.prime l.records l.count l.k (record { slots = l.slots; weights = l.weights; left = l.left })
+    (read_sums (form_is l.form) l.prime l.count l.records)

@@ -1,8 +1,6 @@
-use mathlib.Core.Path.{sym, ap, ◌∙◌}
-use Rattle.reader.specs.Outline.{table_answer}
-use Rattle.checker.proofs.Outcomes.{not_reported}
+use Rattle.std.proofs.Common.{rules}
+use Rattle.reader.proofs.Outlines.{reading_refused}
 use Rattle.checker.proofs.check.Goals as goal
 
-pub returns-in-Refused : goal.returns-in-Refused
-returns-in-Refused c =
-    not_reported c.args.table.now _ (sym (ap table_answer c.in-Refused.is) ∙ c.read_table.ensures)
+pub returns-in_err-read : goal.returns-in_err-read
+returns-in_err-read c = rw (reading_refused c.args.table.now _ c.in_err-read.ensures.answers) (search rules)

@@ -1,5 +1,4 @@
-use mathlib.Core.Path.{refl}
-use native.Mathlib.Omega.{arith}
+use Rattle.std.proofs.Common.{refl, arith}
 use Rattle.writer.proofs.Writing.{none}
 use Rattle.condition.proofs.put_ending.Goals as goal
 

@@ -1,10 +1,7 @@
-use mathlib.Core.Path.{ap, ◌∙◌}
-use Prim.Native.Nat.{ℕ, ◌+◌, ◌-◌, ◌/◌, ◌%◌}
-use native.Mathlib.Omega.{arith}
+use Rattle.std.proofs.Common.{arith}
 use Rattle.constants.proofs.Bits.{bits_moved}
 use Rattle.constants.proofs.bits_of.Goals as goal
 
 pub returns : goal.returns
 returns c =
-    let p = c.args.p in
-    ap (λ (moved : ℕ). (moved + 0x10000 - p / 2) % 0x10000) c.remainder-moved.ensures ∙ bits_moved p c.requires.1 (omega arith) c.args.x
+    rw (c.from-moved.ensures, c.remainder.ensures, c.from.ensures, c.from-half.ensures) (bits_moved c.args.p c.requires.1 (omega arith) c.args.x)

@@ -1,15 +1,7 @@
-use mathlib.Core.Path.{◌≡◌, ap, ◌∙◌}
-use mathlib.Core.List.{List}
-use Prim.Native.Nat.{ℕ, ◌+◌, ◌<◌}
-use native.Mathlib.Omega.{arith}
-use lib.ListN.{length, set, get_or}
+use Rattle.std.proofs.Common.{◌≡◌, ap, ◌∙◌, List, ℕ, ◌+◌, ◌<◌, arith, length, set, get_or}
 use Rattle.field.specs.Modular.{mul_mod}
-use Rattle.constants.proofs.Constants.{Filled, filled_none, filled_length, filled_next, fill}
+use Rattle.constants.proofs.Constants.{Multiplied, filled_none, filled_length, filled_next, fill}
 use Rattle.constants.proofs.multiply_each.Goals as goal
-
--- the first i entries are multiplied
-abbrev Multiplied : ℕ → List ℕ → List ℕ → List ℕ → ℕ → Type 0
-Multiplied p factors before list i = Filled (λ k. mul_mod p (get_or before k 0) (get_or factors k 0)) before list i
 
 turn : (p : ℕ) (factors before list : List ℕ) (i x : ℕ) → Multiplied p factors before list i → i < length list
     → x ≡ mul_mod p (get_or list i 0) (get_or factors i 0) → Multiplied p factors before (set list i x) (i + 1)
@@ -24,4 +16,4 @@ loop-i-init c = filled_none _ _
 pub loop-i-preserved : goal.loop-i-preserved
 loop-i-preserved c =
     let l = c.loop-i in
-    turn _ c.args.factors.now _ _ l.i _ l.invariant c.loop-i-test.true c.mul_reduced.ensures
+    turn _ c.args.factors.now _ _ l.i _ l.invariant (omega arith) c.mul.ensures

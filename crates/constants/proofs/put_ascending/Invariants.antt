@@ -1,12 +1,7 @@
--- `constants::put_ascending` meets its contract. The invariant: the entries before b are filled in, and the others are as they were. The measure is what is left of the length.
--- Assumes nothing.
-use Prim.Native.Nat.{suc, ◌-◌}
-use lib.ListN.{length}
+-- The invariant: the entries before i are filled in, and the others are as they were.
+use Rattle.std.proofs.Common.{suc}
 use Rattle.constants.proofs.Constants.{Filled}
 use Rattle.constants.proofs.put_ascending.Given as goal
 
-abbrev pub invariant-loop-b : goal.invariant-loop-b
-invariant-loop-b l = Filled (λ i. suc i) l.initial.list l.list l.b
-
-abbrev pub decreases-loop-b : goal.decreases-loop-b
-decreases-loop-b l = length l.initial.list - l.b
+abbrev pub invariant-loop-i : goal.invariant-loop-i
+invariant-loop-i l = Filled (λ i. suc i) l.initial.list l.list l.i

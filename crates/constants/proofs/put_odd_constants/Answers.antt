@@ -1,26 +1,22 @@
-use mathlib.Core.Path.{sym, ap, ◌∙◌}
-use native.Mathlib.Omega.{arith}
-use lib.ListN.{length}
+use Rattle.std.proofs.Common.{sym, ap, ◌∙◌, arith, length}
 use Rattle.field.specs.Modular.{residue}
 use Rattle.field.proofs.FirstValues.{length_first}
 use Rattle.circuit.specs.Constant.{bits_of}
 use Rattle.constants.proofs.Constants.{descend_begin, length_powers, descend_one}
 use Rattle.constants.proofs.put_odd_constants.Goals as goal
 
-pub loop-m-init : goal.loop-m-init
-loop-m-init c = descend_begin _ _ _ c.requires.2
+pub loop-k-init : goal.loop-k-init
+loop-k-init c = descend_begin _ _ _ c.requires.0
 
 pub sum_of-requires : goal.sum_of-requires
-sum_of-requires c = let l = c.loop-m in omega (arith, length_powers _ _ _ _ _ l.invariant)
+sum_of-requires c = let l = c.loop-k in omega (arith, length_powers _ _ _ _ _ l.invariant)
 
 pub multiply_each-requires : goal.multiply_each-requires
-multiply_each-requires c = (
-  length_powers _ _ _ _ _ c.loop-m.invariant ∙ sym (ap length c.requires.3 ∙ length_first _ _),
-  c.requires.0,
-  c.reciprocal_of-reciprocal.ensures,
-)
+multiply_each-requires c =
+    length_powers _ _ _ _ _ c.loop-k.invariant ∙ sym (ap length c.requires.1 ∙ length_first _ _)
 
-pub loop-m-preserved : goal.loop-m-preserved
-loop-m-preserved c =
-    descend_one _ _ _ _ c.loop-m.m _ c.args.squares.now _ c.requires.1 c.requires.4 c.requires.3 c.loop-m-test.true c.loop-m.invariant
-    (c.bits_of.ensures ∙ ap (λ x. bits_of c.args.p (residue c.args.p x)) c.sum_of.ensures.0) c.multiply_each.ensures
+pub loop-k-preserved : goal.loop-k-preserved
+loop-k-preserved c =
+    let p = c.args.reducer.p in
+    descend_one p _ _ _ c.loop-k.k _ c.args.squares.now _ c.args.reducer.odd c.requires.2 c.requires.1 (omega arith) c.loop-k.invariant
+    (c.bits_of.ensures ∙ ap (λ x. bits_of p (residue p x)) c.sum_of.ensures.0) c.multiply_each.ensures

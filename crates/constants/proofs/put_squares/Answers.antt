@@ -1,7 +1,4 @@
-use mathlib.Core.Path.{◌≡◌, ap, ◌∙◌}
-use Prim.Native.Nat.{ℕ, suc, ◌+◌, ◌^◌}
-use native.Mathlib.Omega.{arith}
-use native.Mathlib.Numerals.{add-one}
+use Rattle.std.proofs.Common.{◌≡◌, ap, ◌∙◌, ℕ, suc, ◌+◌, ◌^◌, arith, add-one}
 use Rattle.field.specs.Modular.{residue, mul_mod}
 use Rattle.constants.proofs.Constants.{filled_none, filled_length, fill, power_two}
 use Rattle.constants.proofs.put_squares.Goals as goal

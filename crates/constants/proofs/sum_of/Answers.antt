@@ -1,30 +1,18 @@
-use mathlib.Core.Path.{◌≡◌, ap}
-use mathlib.Core.List.{List}
-use Prim.Native.Nat.{ℕ, ◌+◌, ◌≤◌, ◌<◌}
-use native.Mathlib.Omega.{arith}
-use native.Mathlib.Numerals.{add-one}
-use lib.ListN.{length, drop, get_or, drop_of_length-le}
-use lib.Seq.{drop-cons}
+use Rattle.std.proofs.Common.{◌≡◌, ℕ, ◌*◌, ◌≤◌, List, length, sum_by, get_or, refl, sym, ◌∙◌, rules, arith}
+use Rattle.std.proofs.lemmas.List.Elements.{All-from_get_or}
+use Rattle.std.proofs.lemmas.List.Recursion.{is_sum_by}
+use Rattle.std.proofs.lemmas.List.Sums.{sum_by-le}
 use Rattle.field.specs.Sum.{total}
 use Rattle.constants.proofs.sum_of.Goals as goal
 
-turn : (list : List ℕ) (sum i : ℕ) → i < length list → sum + total (drop i list) ≡ total list
-    → sum + get_or list i 0 + total (drop (i + 1) list) ≡ total list
+total_is : (list : List ℕ) → total list ≡ sum_by (λ x. x) list
 unfolding total
-turn list sum i l e = rw add-one (omega (arith, ap total (drop-cons list i 0 l)))
+total_is list = is_sum_by total (λ x. x) refl (λ _ _. refl) list
 
-ended : (list : List ℕ) (sum i : ℕ) → length list ≤ i → sum + total (drop i list) ≡ total list → sum ≡ total list
-unfolding total
-ended list sum i l e = omega (arith, ap total (drop_of_length-le list {i = i} l))
-
-pub loop-i-preserved : goal.loop-i-preserved
-loop-i-preserved c =
-    let l = c.loop-i in (
-      omega arith,
-      omega (arith, c.shared_slice_known-1.given l.i),
-      turn _ l.sum l.i c.loop-i-test.true l.invariant.2,
-    )
+bytes_sum : (list : List ℕ) → ((i : ℕ) → get_or list i 0 ≤ 255) → sum_by (λ x. x) list ≤ length list * 255
+bytes_sum list bytes = sum_by-le (λ x. x) 255 list (All-from_get_or (λ x. x ≤ 255) list 0 (λ i l. bytes i))
 
 pub returns : goal.returns
 returns c =
-    let l = c.loop-i in (ended _ l.sum l.i c.loop-i-test.false l.invariant.2, omega (arith, l.invariant))
+    let sum : c.sum.result ≡ sum_by (λ x. x) c.args.list.now = search rules in
+    (sum ∙ sym (total_is _), omega (arith, sum, bytes_sum c.args.list.now (λ i. omega (arith, c.type_inv.list i))))

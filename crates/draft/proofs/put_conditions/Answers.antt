@@ -1,63 +1,104 @@
-use mathlib.Core.Path.{◌≡◌, refl, sym, ap, ◌∙◌}
-use Prim.Native.Nat.{ℕ, ◌+◌, ◌<◌, ◌≤◌, zero-le}
-use native.Mathlib.Omega.{arith}
-use lib.ListN.{length, take, length-set}
-use Rattle.digits.specs.Number.{most_digits}
+use Rattle.std.proofs.Common.{◌≡◌, ℕ, ◌+◌, ◌*◌, ◌≤◌, ◌<◌, ap, sym, ◌∙◌, arith, length, refl, inl, map}
+use Rattle.std.proofs.Math.ListN.{length-set}
+use Rattle.std.proofs.Math.Seq.{take_all}
+use Rattle.std.proofs.lemmas.List.{length_push}
+use Rattle.std.specs.Iterator.Adapters.{enumerate_source, enumerate_count}
 use Rattle.comparison.specs.Condition.{Condition, unweighed, HasSlots}
-use Rattle.comparison.specs.Writing.{condition_by}
-use Rattle.step.specs.Digit.{tests_by}
-use Rattle.query.specs.Card.{most_conditions}
-use Rattle.card.specs.Conditions.{conditions_of}
+use Rattle.card.specs.Accepted.{conditions_left}
+use Rattle.card.specs.Conditions.{conditions_of, IsRecord}
 use Rattle.card.specs.Parts.{record_is}
-use Rattle.card.proofs.ReadAs.{as_many, record_slotted, slots_after}
-use Rattle.tree.specs.Factors.{nodes}
-use Rattle.draft.specs.Conditions.{drafted}
+use Rattle.card.proofs.Iteration.{AtTurn, turn_numbered, ended_numbered}
+use Rattle.card.proofs.ReadAs.{as_many}
+use Rattle.writer.specs.Nodes.{node_is}
 use Rattle.draft.proofs.Adding.{begins, ends, fits, adds}
 use Rattle.draft.proofs.Orders.{own_order}
-use Rattle.draft.proofs.Prime.{prime_usable}
 use Rattle.draft.proofs.put_conditions.Goals as goal
 
 pub loop-k-init : goal.loop-k-init
-loop-k-init c = (rw c.new_pen-pen.ensures (begins _ _ _ _ _ _), zero-le, refl, refl, refl)
+loop-k-init c = (rw c.new-pen.ensures (begins _ _ _ _ _), refl, refl)
+
+pub loop-k-init-derived : goal.loop-k-init-derived
+loop-k-init-derived c =
+    let card = c.args.card in
+    let start = c.into_iter-k-iterator in
+    let first = ap enumerate_count start.ensures.into_iter_gives ∙ c.enumerate-k-items.ensures.count in
+    let whole = ap (λ s. conditions_left (enumerate_source s)) start.ensures.into_iter_gives ∙ ap conditions_left c.enumerate-k-items.ensures.source ∙ c.conditions.ensures in
+    ((tt, tt, inl (omega (arith, first, ap length whole, as_many card.bytes.now card.head card.read))), tt)
+
+pub offset_bounds-outputs-k : goal.offset_bounds-outputs-k
+offset_bounds-outputs-k c =
+    let card = c.args.card in
+    let start = c.into_iter-k-iterator in
+    let first = ap enumerate_count start.ensures.into_iter_gives ∙ c.enumerate-k-items.ensures.count in
+    let whole = ap (λ s. conditions_left (enumerate_source s)) start.ensures.into_iter_gives ∙ ap conditions_left c.enumerate-k-items.ensures.source ∙ c.conditions.ensures in
+    let step = c.in-Some.ensures.steps in
+    let this = turn_numbered card start.result first whole c.loop-k.yielded c.loop-k.k-iterator c.loop-k.yielded_by (c.in-Some.k, c.in-Some.condition) _ step.0 step.1 in
+    omega (arith, this.1.few)
+
+pub bounds-outputs-k : goal.bounds-outputs-k
+bounds-outputs-k c =
+    let card = c.args.card in
+    let start = c.into_iter-k-iterator in
+    let first = ap enumerate_count start.ensures.into_iter_gives ∙ c.enumerate-k-items.ensures.count in
+    let whole = ap (λ s. conditions_left (enumerate_source s)) start.ensures.into_iter_gives ∙ ap conditions_left c.enumerate-k-items.ensures.source ∙ c.conditions.ensures in
+    let step = c.in-Some.ensures.steps in
+    let this = turn_numbered card start.result first whole c.loop-k.yielded c.loop-k.k-iterator c.loop-k.yielded_by (c.in-Some.k, c.in-Some.condition) _ step.0 step.1 in
+    omega (arith, this.1.low, c.loop-k.invariant.2, c.requires.outputs)
 
 pub put_condition-written-requires : goal.put_condition-written-requires
 put_condition-written-requires c =
-    let condition : Condition = record_is c.record_at-condition.result in
-    let fit : (
-    let p = c.args.head.prime in
-    c.loop-k.pen.next + length (condition_by (tests_by p c.args.step) p (unweighed (condition)) c.loop-k.pen.next).gates ≤ length (drafted p c.args.step (conditions_of c.args.card.now)).gates
-    ) = fits _ _ _ _ _ _ _ _ _ _ c.loop-k.invariant.0 c.record_at-condition.result c.record_at-condition.ensures in
-    let slotted : HasSlots most_digits most_digits (condition) = record_slotted c.args.card.now c.args.head c.loop-k.k c.record_at-condition.result c.requires.reads c.record_at-condition.ensures in
-    let modulus = (prime_usable c.args.card.now c.args.head c.requires.reads).0 in
-    let order = own_order (conditions_of c.args.card.now) c.loop-k.k c.record_at-condition.result c.record_at-condition.ensures in record { room = omega (arith, fit, c.loop-k.invariant.0.counts, c.loop-k.invariant.2, c.requires.room); modulus = (modulus, c.requires.suits, slotted); prepared = λ h. c.requires.ready (order h) }
-
-pub overflow_add-slot : goal.overflow_add-slot
-overflow_add-slot c =
-    let taken = slots_after c.args.card.now c.args.head c.loop-k.k c.loop-k.slot c.record_at-condition.result c.requires.reads c.loop-k.invariant.0.slots c.record_at-condition.ensures in
-    omega (arith, taken.1)
+    let card = c.args.card in
+    let start = c.into_iter-k-iterator in
+    let first = ap enumerate_count start.ensures.into_iter_gives ∙ c.enumerate-k-items.ensures.count in
+    let whole = ap (λ s. conditions_left (enumerate_source s)) start.ensures.into_iter_gives ∙ ap conditions_left c.enumerate-k-items.ensures.source ∙ c.conditions.ensures in
+    let step = c.in-Some.ensures.steps in
+    let this = turn_numbered card start.result first whole c.loop-k.yielded c.loop-k.k-iterator c.loop-k.yielded_by (c.in-Some.k, c.in-Some.condition) _ step.0 step.1 in
+    let r = c.in-Some.condition in
+    let cs = conditions_of card.bytes.now in
+    let is : IsRecord cs (length c.loop-k.yielded) r = rw this.0 at this.1.is in
+    let known = c.loop-k.invariant in
+    let fit = fits _ _ _ _ _ _ _ _ known.0 r is in
+    rw (c.modulus_of-m.ensures, c.from.ensures, c.from-in-loop-k.ensures, c.from-in-loop-k-2.ensures)
+    (record {
+      room = (omega (arith, fit, known.1, c.requires.room), omega (arith, fit, c.requires.room), known.0.counts.0, known.0.counts.1);
+      suits = (c.requires.suits, this.1.slots);
+      prepared = λ h. c.requires.ready (own_order cs (length c.loop-k.yielded) r is h);
+    })
 
 pub loop-k-preserved : goal.loop-k-preserved
 loop-k-preserved c =
-    let many : (
-    (c.wide-count.result ≡ c.args.head.count) × (length (conditions_of c.args.card.now) ≡ c.args.head.count) × (c.args.head.count ≤ most_conditions)
-    ) = let all = as_many c.args.card.now c.args.head c.requires.reads in
-    (c.wide-count.ensures.0, all.0, all.2) in
-    let less : c.loop-k.k < c.args.head.count = omega (arith, c.loop-k-test.true, many) in
-    let e = c.put_condition-written.ensures in (
-      adds _ _ _ _ _ _ _ _ _ _ c.loop-k.invariant.0 c.record_at-condition.result c.record_at-condition.ensures _ _ _ _ e.wrote e.moves e.output
-          (omega (arith, less, c.loop-k.invariant.3, c.requires.outputs)) (omega (arith, less, c.loop-k.invariant.4, c.requires.outputs)),
-      omega (arith, c.loop-k-test.true),
-      omega (arith, c.loop-k.invariant.2, c),
-      length-set c.loop-k.gates c.loop-k.k c.put_condition-written.result.node.gate ∙ c.loop-k.invariant.3,
-      length-set c.loop-k.depths c.loop-k.k c.put_condition-written.result.node.depth ∙ c.loop-k.invariant.4,
+    let card = c.args.card in
+    let start = c.into_iter-k-iterator in
+    let first = ap enumerate_count start.ensures.into_iter_gives ∙ c.enumerate-k-items.ensures.count in
+    let whole = ap (λ s. conditions_left (enumerate_source s)) start.ensures.into_iter_gives ∙ ap conditions_left c.enumerate-k-items.ensures.source ∙ c.conditions.ensures in
+    let step = c.in-Some.ensures.steps in
+    let this = turn_numbered card start.result first whole c.loop-k.yielded c.loop-k.k-iterator c.loop-k.yielded_by (c.in-Some.k, c.in-Some.condition) _ step.0 step.1 in
+    let r = c.in-Some.condition in
+    let is : IsRecord (conditions_of card.bytes.now) (length c.loop-k.yielded) r = rw this.0 at this.1.is in
+    let known = c.loop-k.invariant in
+    let e = c.put_condition-written.ensures in
+    let wrote = rw (c.modulus_of-m.ensures, c.from.ensures, c.from-in-loop-k.ensures, c.from-in-loop-k-2.ensures) at e.wrote in
+    let moves = rw (c.modulus_of-m.ensures, c.from.ensures, c.from-in-loop-k.ensures, c.from-in-loop-k-2.ensures) at e.moves in
+    let output = rw (c.modulus_of-m.ensures, c.from.ensures, c.from-in-loop-k.ensures, c.from-in-loop-k-2.ensures) at e.output in
+    let more = adds _ _ _ _ _ _ _ _ known.0 r is _ _ c.put_condition-written.result.node wrote moves output (omega (arith, this, known.2, c.requires.outputs)) in
+    (
+      rw (length_push c.loop-k.yielded (c.in-Some.k, r), this.0) more,
+      omega (arith, known.1, c),
+      length-set c.loop-k.outputs c.in-Some.k c.put_condition-written.result.node ∙ known.2,
     )
 
 pub returns : goal.returns
 returns c =
-    let many : (
-    (c.wide-count.result ≡ c.args.head.count) × (length (conditions_of c.args.card.now) ≡ c.args.head.count) × (c.args.head.count ≤ most_conditions)
-    ) = let all = as_many c.args.card.now c.args.head c.requires.reads in
-    (c.wide-count.ensures.0, all.0, all.2) in
-    let all = many in
-    let last : c.loop-k.k ≡ c.args.head.count = omega (arith, c.loop-k-test.false, c.loop-k.invariant.1, all) in
-    let e = ends _ _ _ _ _ _ _ _ _ _ (omega (arith, last, all)) c.loop-k.invariant.0 in record { wrote = e.0; moves = e.1; outputs = ap (λ (n : ℕ). nodes (take n c.loop-k.gates) (take n c.loop-k.depths)) (sym last) ∙ e.2 }
+    let card = c.args.card in
+    let start = c.into_iter-k-iterator in
+    let first = ap enumerate_count start.ensures.into_iter_gives ∙ c.enumerate-k-items.ensures.count in
+    let whole = ap (λ s. conditions_left (enumerate_source s)) start.ensures.into_iter_gives ∙ ap conditions_left c.enumerate-k-items.ensures.source ∙ c.conditions.ensures in
+    let many = ended_numbered card start.result first whole c.loop-k.yielded c.loop-k.k-iterator c.loop-k.yielded_by c.in-None.ensures.steps.0.0 in
+    let known = c.loop-k.invariant in
+    let all = as_many card.bytes.now card.head card.read in
+    let e = ends _ _ _ _ _ _ _ _ (omega (arith, many, all)) known.0 in
+    record {
+      wrote = e.0;
+      moves = e.1;
+      outputs = ap (map node_is) (sym (take_all (length c.loop-k.yielded) c.loop-k.outputs (omega (arith, many, known.2, c.requires.outputs)))) ∙ e.2;
+    }

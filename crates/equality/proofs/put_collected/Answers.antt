@@ -1,5 +1,4 @@
-use mathlib.Core.Path.{◌≡◌, refl}
-use native.Mathlib.Omega.{arith}
+use Rattle.std.proofs.Common.{◌≡◌, refl, arith}
 use Rattle.comparison.specs.Bits.{bits}
 use Rattle.comparison.specs.EqualityDigit.{power}
 use Rattle.writer.proofs.Remains.{remains_all, remains_as}
@@ -39,15 +38,15 @@ loop-rest-preserved c =
           w.result w.ensures.wrote w.ensures.deepens,
     )
 
-pub put_flip-requires : goal.put_flip-requires
-put_flip-requires c =
+pub put_gate-requires : goal.put_gate-requires
+put_gate-requires c =
     let l = c.loop-rest in
     let some = chain_some (bits l.rest) l.collected.pen.next l.running.gate (power l.collected.node.gate) in
     omega (arith, l.invariant.4.number, some)
 
 pub returns : goal.returns
 returns c =
-    let f = c.put_flip in
+    let f = c.put_gate in
     let l = c.loop-rest in
     let none : l.rest ≡ 0 = omega arith in
     let last = remains_as (chain_end l.rest _ _ _ none) l.invariant.4 in record { wrote = last.gives _ _ f.ensures.wrote; moves = omega (arith, last.number); deepens = (omega arith, collects_all _ l.rest _ _ none l.invariant.3) }

@@ -1,23 +1,39 @@
-use mathlib.Core.Path.{◌∙◌}
-use native.Mathlib.Omega.{arith}
-use Rattle.tree.proofs.Factors.{length_factors}
+use Rattle.std.proofs.Common.{◌≡◌, ◌∙◌, length, arith}
+use Rattle.std.proofs.lemmas.List.{length-map, length-take-le}
+use Rattle.writer.specs.Nodes.{node_is}
 use Rattle.equality.proofs.Joining.{digits_within, outputs_shallow, whole_length, whole_output, whole_wrote}
 use Rattle.equality.proofs.put_equality.Goals as goal
 
 pub put_equality_digits-written-requires : goal.put_equality_digits-written-requires
 put_equality_digits-written-requires c =
-    let a = c.args in record { room = omega (arith, digits_within a.p a.slots a.pen.next); modulus = omega (arith, digits_within a.p a.slots a.pen.next); count_in_bounds = omega (arith, digits_within a.p a.slots a.pen.next) }
+    let a = c.args in
+    let within = digits_within a.modulus.p a.slots a.pen.next in
+    record {
+      room = omega (arith, within);
+      slots = omega arith;
+      one_node_each = length-take-le c.from.result _ (omega (arith, c.from.ensures)) ∙ c.from.ensures;
+    }
 
 pub put_product_tree-requires : goal.put_product_tree-requires
 put_product_tree-requires c =
     let a = c.args in
-    let are = c.put_equality_digits-written.ensures.outputs in
-    let size = whole_length a.p a.slots a.pen.next are (length_factors a.slots.count _ _ (omega arith) (omega arith)) in record { room = omega (arith, size); shallow = outputs_shallow a.p a.slots a.pen.next are (omega arith) (omega arith) }
+    let e = c.put_equality_digits-written in
+    let are = e.ensures.outputs in
+    let sized : length e.new.nodes ≡ a.slots.count = e.auto.nodes ∙ length-take-le c.from.result _ (omega (arith, c.from.ensures)) ∙ c.from.ensures in
+    let size = whole_length a.modulus.p a.slots a.pen.next are (length-map e.new.nodes node_is ∙ sized) in
+    record { room = omega (arith, size, sized); shallow = rw sized (outputs_shallow a.modulus.p a.slots a.pen.next are (omega arith) (omega arith)) }
 
 pub returns : goal.returns
 returns c =
     let a = c.args in
+    let p = a.modulus.p in
     let w = c.put_product_tree in
     let e = c.put_equality_digits-written in
     let are = e.ensures.outputs in
-    let size = whole_length a.p a.slots a.pen.next are (length_factors a.slots.count _ _ (omega arith) (omega arith)) in record { wrote = whole_wrote a.p a.slots are e.ensures.wrote w.ensures.wrote; moves = omega (arith, size); output = w.ensures.output ∙ whole_output a.p a.slots a.pen.next are _ e.ensures.moves.0 }
+    let sized : length e.new.nodes ≡ a.slots.count = e.auto.nodes ∙ length-take-le c.from.result _ (omega (arith, c.from.ensures)) ∙ c.from.ensures in
+    let size = whole_length p a.slots a.pen.next are (length-map e.new.nodes node_is ∙ sized) in
+    record {
+      wrote = whole_wrote p a.slots are e.ensures.wrote w.ensures.wrote;
+      moves = omega (arith, size, sized);
+      output = w.ensures.output ∙ whole_output p a.slots a.pen.next are _ e.ensures.moves.0;
+    }

@@ -1,16 +1,13 @@
--- `forecast::count_conditions` meets its contract. The invariant is `Adds`: the counts of the k conditions counted so far,
--- with those of the conditions that are left, give the whole. The measure is what is left of count.
+-- `forecast::count_conditions` meets its contract. The invariant is `Adds`: the counts of the conditions counted so far,
+-- with those of the conditions that are left, give the whole; and they are no more than a card has.
 -- Assumes nothing.
-use Prim.Native.Nat.{◌-◌, ◌≤◌}
-use Rattle.card.specs.Conditions.{conditions_of, Taken}
+use Rattle.std.proofs.Common.{◌≤◌, length}
+use Rattle.query.specs.Card.{most_conditions}
+use Rattle.card.specs.Conditions.{conditions_of}
 use Rattle.forecast.proofs.AddingUp.{Adds}
 use Rattle.forecast.proofs.count_conditions.Given as goal
 
-abbrev pub invariant-loop-k : goal.invariant-loop-k
-invariant-loop-k l =
-    Adds l.head.prime (conditions_of l.card) l.k (record { gates = l.gates; products = l.products; squares = l.squares; breadth = l.breadth; longest = l.longest })
-    × (l.k ≤ l.count)
-    × Taken (conditions_of l.card) l.k l.slot
-
-abbrev pub decreases-loop-k : goal.decreases-loop-k
-decreases-loop-k l = l.count - l.k
+abbrev pub invariant-loop-condition : goal.invariant-loop-condition
+invariant-loop-condition l =
+    Adds l.fn.card.head.prime (conditions_of l.fn.card.bytes.now) (length l.yielded) l.totals
+    × (length l.yielded ≤ most_conditions)

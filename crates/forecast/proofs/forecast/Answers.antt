@@ -1,8 +1,8 @@
-use mathlib.Core.Path.{sym, ap, ◌∙◌}
-use Rattle.card.specs.Parts.{card_answer}
+use Rattle.std.proofs.Common.{rules}
 use Rattle.forecast.proofs.Forecasting.{refused_too}
 use Rattle.forecast.proofs.forecast.Goals as goal
 
-pub returns-in-Refused : goal.returns-in-Refused
-returns-in-Refused c =
-    refused_too c.args.card.now _ (sym (ap card_answer c.in-Refused.is) ∙ c.read_card.ensures)
+pub returns-in_err-read : goal.returns-in_err-read
+returns-in_err-read c =
+    let told = refused_too c.args.card.now _ c.in_err-read.ensures.answer in
+    search rules

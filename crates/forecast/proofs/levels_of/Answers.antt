@@ -1,4 +1,5 @@
-use native.Mathlib.Omega.{arith}
+use Rattle.std.proofs.Common.{ap, ◌∙◌, arith}
+use Rattle.field.specs.Logarithm.{clog}
 use Rattle.field.proofs.Logarithm.{clog_is_ceiling}
 use Rattle.forecast.proofs.levels_of.Goals as goal
 
@@ -10,4 +11,5 @@ returns-in-YesOrNo c =
 pub returns-in-Score : goal.returns-in-Score
 returns-in-Score c =
     let low = (clog_is_ceiling c.args.totals.longest 16).0 (omega (arith, c.requires)) in
-    rw c.in-Score.is (c.ceil_log2-in-Score.ensures, omega (arith, c.ceil_log2-in-Score.ensures, low))
+    let levels = c.ceil_log2-in-Score.ensures ∙ ap clog c.from.ensures in
+    rw c.in-Score.is (levels, omega (arith, levels, low))

@@ -1,51 +1,42 @@
-use mathlib.Core.Path.{◌∙◌}
-use Prim.Native.Nat.{ℕ, ◌-◌, ◌/◌}
-use native.Mathlib.Omega.{arith}
-use Rattle.circuit.specs.Segment.{Node}
-use Rattle.joining.specs.Listed.{node_at}
-use Rattle.joining.proofs.Depth.{some_joinable, run_shallow, lowest_shallow}
-use Rattle.joining.proofs.Halving.{joining_split}
-use Rattle.joining.proofs.Joins.{lowest_one, lowest_more}
+use Rattle.std.proofs.Common.{arith}
+use Rattle.joining.specs.Listed.{less_at, equal_at}
+use Rattle.joining.proofs.Depth.{below_joinable, above_joinable, run_shallow, lowest_shallow}
+use Rattle.joining.proofs.Joins.{lowest_one}
+use Rattle.joining.proofs.Parts.{in_halves, joined_whole, whole_split}
 use Rattle.joining.proofs.+join_lowest.Goals as goal
 
-pub returns-then-n-le1 : goal.returns-then-n-le1
-returns-then-n-le1 t c =
-    let less : ℕ → Node = node_at c.args.less.now c.args.less_depths.now in
-    let equal : ℕ → Node = node_at c.args.equal.now c.args.equal_depths.now in
-    let one = lowest_one (less) (equal) c.args.n c.if-n-le1.true in record { wrote = one.0; moves = omega (arith, one.0.number); output = c.node_at.ensures ∙ one.1 }
+pub returns-then-tests-eq1 : goal.returns-then-tests-eq1
+returns-then-tests-eq1 t c =
+    let tests = c.args.tests.now in
+    let one = lowest_one (less_at tests) (equal_at tests) _ (omega arith) in
+    record { wrote = one.0; moves = omega (arith, one.0.number); output = one.1 }
 
 pub join_lowest-low-requires : goal.join_lowest-low-requires
 join_lowest-low-requires t c =
-    let less : ℕ → Node = node_at c.args.less.now c.args.less_depths.now in
-    let equal : ℕ → Node = node_at c.args.equal.now c.args.equal_depths.now in
-    let n = c.args.n in
-    let whole = joining_split (less) (equal) n c.args.pen.next c.if-n-le1.false in
-    (omega arith, (some_joinable c.requires.joinable 0 (n / 2) (omega arith) (omega arith), omega arith))
+    let halved = in_halves c.if-tests-eq1.false c.requires.joinable.some c.split_at.ensures.front c.split_at.ensures.back in
+    let whole = whole_split halved c.args.pen.next in
+    (omega (arith, c, c, c), (below_joinable halved c.requires.joinable, omega (arith, whole)))
 
-pub join_run-high-requires : goal.join_run-high-requires
-join_run-high-requires t c =
-    let less : ℕ → Node = node_at c.args.less.now c.args.less_depths.now in
-    let equal : ℕ → Node = node_at c.args.equal.now c.args.equal_depths.now in
-    let n = c.args.n in
-    let whole = joining_split (less) (equal) n c.args.pen.next c.if-n-le1.false in record { le_first = (omega (arith, c, c), some_joinable c.requires.joinable (n / 2) (n - n / 2) (omega (arith, c, c)) (omega (arith, c, c))); room = omega (arith, c, c, whole) }
+pub join_run-high-requires-clause-room : goal.join_run-high-requires-clause-room
+join_run-high-requires-clause-room t c =
+    let halved = in_halves c.if-tests-eq1.false c.requires.joinable.some c.split_at.ensures.front c.split_at.ensures.back in
+    let whole = whole_split halved c.args.pen.next in
+    omega (arith, whole)
 
 pub put_less-requires : goal.put_less-requires
 put_less-requires t c =
-    let less : ℕ → Node = node_at c.args.less.now c.args.less_depths.now in
-    let equal : ℕ → Node = node_at c.args.equal.now c.args.equal_depths.now in
-    let n = c.args.n in
+    let halved = in_halves c.if-tests-eq1.false c.requires.joinable.some c.split_at.ensures.front c.split_at.ensures.back in
     let may = c.requires.joinable in
-    let whole = joining_split (less) (equal) n c.args.pen.next c.if-n-le1.false in
-    let l = lowest_shallow (some_joinable may 0 (n / 2) (omega (arith, c, c)) (omega (arith, c, c))) _ c.join_lowest-low.ensures.output in
-    let h = run_shallow (some_joinable may (n / 2) (n - n / 2) (omega (arith, c, c)) (omega (arith, c, c))) (omega (arith, c, c)) _
-    c.join_run-high.ensures.less c.join_run-high.ensures.equal in
-    (omega (arith, c, c, c, whole), l, h.1)
+    let whole = whole_split halved c.args.pen.next in
+    let l = lowest_shallow (below_joinable halved may) _ c.join_lowest-low.ensures.output in
+    let h = run_shallow (above_joinable halved may) _ c.join_run-high.ensures.less c.join_run-high.ensures.equal in
+    (omega (arith, whole), l, h.1)
 
 pub returns : goal.returns
 returns t c =
-    let less : ℕ → Node = node_at c.args.less.now c.args.less_depths.now in
-    let equal : ℕ → Node = node_at c.args.equal.now c.args.equal_depths.now in
+    let halved = in_halves c.if-tests-eq1.false c.requires.joinable.some c.split_at.ensures.front c.split_at.ensures.back in
     let l = c.join_lowest-low.ensures in
     let h = c.join_run-high.ensures in
     let j = c.put_less.ensures in
-    let all = lowest_more (less) (equal) c.args.n c.if-n-le1.false l.wrote l.output h.wrote h.less h.equal j.wrote j.joins in record { wrote = all.0; moves = (all.0.number, j.moves.1, j.moves.2); output = all.1 }
+    let all = joined_whole halved l.wrote l.output h.wrote h.less h.equal j.wrote j.joins in
+    record { wrote = all.0; moves = (all.0.number, j.moves.1, j.moves.2); output = all.1 }

@@ -1,12 +1,7 @@
--- `liveness::enter_uses` meets its contract. The invariant is `Entering`: the last uses by the first k gates, and later entries as they were.
--- A turn enters one gate. The measure is what is left of the gates.
+-- The invariant is `Entering`: the last uses by the first gates, and later entries as they were.
 -- Assumes nothing.
-use Prim.Native.Nat.{◌-◌}
 use Rattle.liveness.proofs.Entering.{Entering}
 use Rattle.liveness.proofs.enter_uses.Given as goal
 
-abbrev pub invariant-loop-k : goal.invariant-loop-k
-invariant-loop-k l = Entering l.table l.count l.initial.list l.list l.k
-
-abbrev pub decreases-loop-k : goal.decreases-loop-k
-decreases-loop-k l = l.count - l.k
+abbrev pub invariant-loop-number : goal.invariant-loop-number
+invariant-loop-number l = Entering l.table.bytes.now l.table.outline.gates l.initial.list l.list l.number

@@ -1,11 +1,10 @@
-use mathlib.Core.Path.{sym, ap, ◌∙◌}
-use Rattle.answer.proofs.Outcome.{said}
-use Rattle.reader.specs.Outline.{table_answer}
+use Rattle.std.proofs.Common.{rules}
 use Rattle.reader.proofs.Outlines.{reading_refused}
-use Rattle.liveness.proofs.Outcome.{not_listed}
 use Rattle.liveness.proofs.last_uses.Goals as goal
 
-pub returns-in-Refused : goal.returns-in-Refused
-returns-in-Refused c =
-    let a = c.args in
-    let e = reading_refused a.table.now _ (sym (ap table_answer c.in-Refused.is) ∙ c.read_table.ensures) in let whole = said (not_listed a.table.now a.list.now _ e) in record { answers = whole.0; leaves = whole.1 }
+pub returns-in_err-read-clause-answers : goal.returns-in_err-read-clause-answers
+returns-in_err-read-clause-answers c =
+    rw (reading_refused c.args.table.now _ c.in_err-read.ensures.answers) (search rules)
+
+pub returns-in_err-read-clause-leaves : goal.returns-in_err-read-clause-leaves
+returns-in_err-read-clause-leaves c = rw (reading_refused c.args.table.now _ c.in_err-read.ensures.answers)

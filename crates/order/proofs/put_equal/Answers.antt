@@ -1,6 +1,4 @@
-use mathlib.Core.Path.{refl}
-use mathlib.Core.List.{[], ◌∷◌}
-use native.Mathlib.Omega.{arith}
+use Rattle.std.proofs.Common.{refl, [], ◌∷◌, arith}
 use Rattle.circuit.specs.Gate.{Flip}
 use Rattle.writer.proofs.Writing.{none}
 use Rattle.comparison.proofs.Digits.{lowest_none}

@@ -1,8 +1,6 @@
-use mathlib.Core.Path.{refl}
-use native.Mathlib.Omega.{arith}
-use borrow.Author.Tests.{eq-eqb}
+use Rattle.std.proofs.Common.{eq-eqb}
 use Rattle.writer.proofs.Writing.{none}
 use Rattle.pieces.proofs.next_term.Goals as goal
 
-pub returns-then-bits-eq0 : goal.returns-then-bits-eq0
-returns-then-bits-eq0 c = rw (eq-eqb _ 0 c.if-bits-eq0.true) (record { wrote = none; moves = omega arith; sums = refl })
+pub returns-then-bits-eq0-clause-wrote : goal.returns-then-bits-eq0-clause-wrote
+returns-then-bits-eq0-clause-wrote c = rw (eq-eqb _ 0 c.if-bits-eq0.true) none

@@ -1,4 +1,4 @@
-use native.Mathlib.Omega.{arith}
+use Rattle.std.proofs.Common.{arith}
 use Rattle.powers.proofs.Powers.{place_within}
 use Rattle.powers.proofs.power_at.Goals as goal
 

@@ -1,4 +1,4 @@
-use native.Mathlib.Omega.{arith}
+use Rattle.std.proofs.Common.{arith}
 use Rattle.comparison.proofs.Powers.{gate_low, gate_high}
 use Rattle.powers.proofs.power_place.Goals as goal
 

@@ -1,7 +1,4 @@
-use mathlib.Core.Path.{◌≡◌}
-use mathlib.Core.List.{[], ◌∷◌}
-use Prim.Native.Nat.{◌+◌, ◌-◌}
-use native.Mathlib.Omega.{arith}
+use Rattle.std.proofs.Common.{◌≡◌, [], ◌∷◌, ◌+◌, ◌-◌, arith}
 use Rattle.comparison.specs.OrderDigit.{ascending, power_of}
 use Rattle.writer.proofs.Remains.{remains_as, remains_then}
 use Rattle.writer.proofs.Writing.{none}
@@ -14,14 +11,11 @@ loop-i-preserved c =
       omega arith,
       omega arith,
       omega arith,
-      omega arith,
-      omega arith,
-      omega arith,
-      remains_then {gs = power_of a.z c.loop-i.i ∷ []} (remains_as (low_cons a.z a.h c.loop-i.i (omega arith)) c.loop-i.invariant.6)
+      remains_then {gs = power_of a.z c.loop-i.i ∷ []} (remains_as (low_cons a.z a.h c.loop-i.i (omega arith)) c.loop-i.invariant.3)
           c.put_power-last.ensures.wrote,
     )
 
 pub returns-clause-wrote : goal.returns-clause-wrote
 unfolding ascending
 returns-clause-wrote c =
-    let e : c.args.h + 1 - c.loop-i.i ≡ 0 = omega arith in (rw e at c.loop-i.invariant.6).gives _ _ none
+    let e : c.args.h + 1 - c.loop-i.i ≡ 0 = omega arith in (rw e at c.loop-i.invariant.3).gives _ _ none

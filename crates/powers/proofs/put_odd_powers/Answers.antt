@@ -1,7 +1,5 @@
-use mathlib.Core.Path.{◌≡◌}
-use mathlib.Core.List.{[], ◌∷◌}
-use Prim.Native.Nat.{◌-◌, ◌/◌}
-use native.Mathlib.Omega.{arith}
+use Rattle.std.proofs.Common.{◌≡◌, ap, [], ◌∷◌, List, map, ℕ, ◌+◌, ◌-◌, ◌*◌, arith}
+use Rattle.field.specs.Half.{half}
 use Rattle.field.specs.Polynomials.{every_second}
 use Rattle.comparison.specs.OrderDigit.{power_of}
 use Rattle.writer.proofs.Remains.{remains_as, remains_then}
@@ -9,21 +7,18 @@ use Rattle.writer.proofs.Writing.{none}
 use Rattle.powers.proofs.Powers.{odd_cons}
 use Rattle.powers.proofs.put_odd_powers.Goals as goal
 
-pub loop-i-preserved : goal.loop-i-preserved
-loop-i-preserved c =
-    let a = c.args in (
+pub loop-k-preserved : goal.loop-k-preserved
+loop-k-preserved c =
+    let a = c.args in
+    let k = c.loop-k.k in (
       omega arith,
       omega arith,
       omega arith,
-      omega arith,
-      omega arith,
-      omega arith,
-      omega arith,
-      remains_then {gs = power_of a.z c.loop-i.i ∷ []} (remains_as (odd_cons a.z a.p c.loop-i.i (omega arith)) c.loop-i.invariant.7)
+      remains_then {gs = power_of a.z (2 * k + 1) ∷ []} (remains_as (odd_cons a.z (half a.m.p) k (omega arith)) c.loop-k.invariant.3)
           c.put_power-last.ensures.wrote,
     )
 
 pub returns-clause-wrote : goal.returns-clause-wrote
 unfolding every_second
 returns-clause-wrote c =
-    let e : (c.args.p - c.loop-i.i) / 2 ≡ 0 = omega arith in (rw e at c.loop-i.invariant.7).gives _ _ none
+    let e : half c.args.m.p - c.loop-k.k ≡ 0 = omega arith in (rw e at c.loop-k.invariant.3).gives _ _ none

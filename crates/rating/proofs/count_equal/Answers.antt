@@ -1,5 +1,4 @@
-use Prim.Native.Nat.{ℕ, ◌-◌, ◌≤◌}
-use native.Mathlib.Omega.{arith}
+use Rattle.std.proofs.Common.{ℕ, ◌-◌, ◌≤◌, arith}
 use Rattle.comparison.specs.Tests.{equality_test}
 use Rattle.comparison.proofs.Bits.{ones_below, flog_below}
 use Rattle.writer.specs.Modulus.{Modulus}
@@ -11,10 +10,12 @@ few p odd = omega (arith, odd, ones_below (p - 1) (omega (arith, odd)) (omega (a
 
 pub put_zero_test-written-requires : goal.put_zero_test-written-requires
 put_zero_test-written-requires c =
-    let f = few c.args.p c.requires.1 in
-    ((omega (arith, f, c.requires), omega (arith, f, c.requires), omega arith, omega arith), c.requires.1)
+    let m = c.args.m in
+    let f = few m.p (m.least, m.odd, m.byte) in
+    (omega (arith, f, c.second_gate.ensures), omega (arith, f, c.second_gate.ensures), omega (arith, c.second_gate.ensures), omega (arith, c.second_gate.ensures))
 
 pub returns : goal.returns
 returns c =
+    let m = c.args.m in
     let moved = c.put_zero_test-written.ensures.moves.0 in
-    (omega (arith, moved), omega (arith, moved, few c.args.p c.requires.1))
+    (omega (arith, moved, c.second_gate.ensures), omega (arith, moved, c.second_gate.ensures, few m.p (m.least, m.odd, m.byte)))

@@ -1,15 +1,15 @@
-use mathlib.Core.Path.{◌≡◌, sym, ap, ◌∙◌}
-use mathlib.Core.List.{List}
-use Prim.Native.Nat.{ℕ}
-use Rattle.answer.specs.Outcome.{accepted}
-use Rattle.circuit.specs.Reading.{read_head}
-use Rattle.records.specs.Head.{head_is}
-use Rattle.reader.specs.HeadAnswer.{head_answer}
-use Rattle.reader.proofs.Outlines.{readable}
+use Rattle.std.proofs.Common.{sym}
+use Rattle.records.proofs.Read.{count_range, long}
+use Rattle.reader.proofs.Outlines.{readable, outlined, outline_counts}
 use Rattle.reader.proofs.read_table.Goals as goal
 
-pub read_after-requires : goal.read_after-requires
-read_after-requires c =
-    let bytes : List ℕ = c.args.table.now in
-    let passes : read_head (bytes) ≡ accepted (head_is c.in-Read.head) = sym c.read_head.ensures ∙ ap head_answer c.in-Read.is in
-    rw c.u16_at.ensures.0 (readable (bytes) _ (passes))
+pub invariant_of-unread : goal.invariant_of-unread
+invariant_of-unread c =
+    record { readable = readable c.args.table.now _ _ (sym c.in_ok-head.ensures) c.u16_at-count.ensures.0 }
+
+pub invariant_of-result : goal.invariant_of-result
+invariant_of-result c =
+    let bytes = c.args.table.now in
+    let whole = outlined bytes _ _ (sym c.in_ok-head.ensures) c.u16_at-count.ensures.0 _ c.in_ok-depth.ensures in
+    let counts = outline_counts bytes _ whole in
+    record { outlined = whole; counted = counts; some = (count_range bytes _ counts).0; room = long bytes _ counts }

@@ -1,35 +1,27 @@
-use mathlib.Core.List.{List}
-use mathlib.Core.Path.{ap}
-use Prim.Native.Nat.{ℕ}
-use lib.ListN.{length-set}
+use Rattle.std.proofs.Common.{List, ℕ, ap, length-set}
 use Rattle.records.specs.Operands.{entered}
 use Rattle.records.proofs.Operands.{none, one, two, first_below, second_below}
 use Rattle.records.proofs.enter_operands.Goals as goal
 
 pub returns-then-n-eq0 : goal.returns-then-n-eq0
 returns-then-n-eq0 c =
-    let bytes : List ℕ = c.args.bytes.now in
-    ap (λ (places : List ℕ). entered c.args.number places c.args.list.now) (none (bytes) c.arity-n.result c.arity-n.ensures c.if-n-eq0.true)
+    ap (λ (places : List ℕ). entered c.args.number places c.args.list.now) (none c.args.bytes.now _ c.arity-n.ensures c.if-n-eq0.true)
 
 pub bounds-list-a : goal.bounds-list-a
-bounds-list-a c =
-    let bytes : List ℕ = c.args.bytes.now in
-    rw c.u16_at-a.ensures.0 (first_below (bytes) c.arity-n.result c.arity-n.ensures _ c.if-n-eq0.false c.requires.1)
+bounds-list-a c = rw c.u16_at-a.ensures.0 (first_below c.args.bytes.now _ c.arity-n.ensures _ c.if-n-eq0.false c.requires.1)
 
 pub returns-then-n-eq1 : goal.returns-then-n-eq1
 returns-then-n-eq1 c =
-    let bytes : List ℕ = c.args.bytes.now in
     rw c.u16_at-a.ensures.0
-    (ap (λ (places : List ℕ). entered c.args.number places c.args.list.now) (one (bytes) c.arity-n.result c.arity-n.ensures c.if-n-eq1.true))
+    (ap (λ (places : List ℕ). entered c.args.number places c.args.list.now) (one c.args.bytes.now _ c.arity-n.ensures c.if-n-eq1.true))
 
 pub bounds-list-b : goal.bounds-list-b
 bounds-list-b c =
-    let bytes : List ℕ = c.args.bytes.now in
     rw (length-set, c.u16_at-b.ensures.0)
-    (second_below (bytes) c.arity-n.result c.arity-n.ensures _ c.if-n-eq0.false c.requires.1 c.if-n-eq1.false)
+    (second_below c.args.bytes.now _ c.arity-n.ensures _ c.if-n-eq0.false c.requires.1 c.if-n-eq1.false)
 
 pub returns : goal.returns
 returns c =
-    let bytes : List ℕ = c.args.bytes.now in
     rw (c.u16_at-a.ensures.0, c.u16_at-b.ensures.0)
-    (ap (λ (places : List ℕ). entered c.args.number places c.args.list.now) (two (bytes) c.arity-n.result c.arity-n.ensures c.if-n-eq0.false c.if-n-eq1.false))
+    (ap (λ (places : List ℕ). entered c.args.number places c.args.list.now)
+    (two c.args.bytes.now _ c.arity-n.ensures c.if-n-eq0.false c.if-n-eq1.false))

@@ -1,15 +1,12 @@
-use mathlib.Core.Path.{◌≡◌, sym}
-use native.Mathlib.Omega.{arith}
-use Rattle.state.proofs.Deep.{none_deep, one_deep}
+use Rattle.std.proofs.Common.{ltb, ◌∙◌, rules, tests}
+use Rattle.std.proofs.lemmas.Iterator.{YieldsList-from_slice}
+use Rattle.std.proofs.lemmas.Iterator.Search.{any_from_yields_List}
+use Rattle.filling.specs.State.{most_levels}
+use Rattle.writer.specs.declared.Node as declared
+use Rattle.state.proofs.Deep.{any_deep}
 use Rattle.state.proofs.is_deep.Goals as goal
 
-pub returns-then-depths-k-gt-MOST_LEVELS : goal.returns-then-depths-k-gt-MOST_LEVELS
-returns-then-depths-k-gt-MOST_LEVELS c gates long =
-    let a = c.args in
-    sym (one_deep a.count c.loop-k.k gates a.depths.now (omega arith) long c.requires c.if-depths-k-gt-MOST_LEVELS.true)
-
 pub returns : goal.returns
-returns c gates long =
-    let a = c.args in
-    let all : c.loop-k.k ≡ a.count = omega arith in
-    sym (none_deep a.count gates a.depths.now long c.requires (rw all at c.loop-k.invariant.1))
+returns c =
+    any_from_yields_List (λ (o : declared.Node). ltb most_levels o.depth) _ _ _ c.any.ensures.ran (YieldsList-from_slice c.args.outputs.now cc) (λ x b q k. search (rules, tests))
+    ∙ any_deep c.args.outputs.now

@@ -1,64 +1,39 @@
-use mathlib.Core.Path.{◌≡◌, ap, ◌∙◌}
-use mathlib.Core.List.{List, [], ◌∷◌, ◌++◌}
-use Prim.Native.Nat.{ℕ, ◌-◌, ◌≤◌, ◌<◌}
-use native.Mathlib.Omega.{arith}
-use lib.ListN.{length, take, length-set}
-use Rattle.circuit.specs.Segment.{Node}
-use Rattle.tree.specs.Factors.{nodes}
-use Rattle.writer.specs.Nodes.{node_is}
-use Rattle.tree.proofs.Factors.{single, length_factors, added}
-use Rattle.tree.proofs.ProductTree.{Taken, taken, turn, ended, shallow_two, shallow_turn}
+use Rattle.std.proofs.Common.{ap, ◌∙◌, [], ◌∷◌, ◌++◌, ◌-◌, ◌<◌, arith}
+use Rattle.tree.proofs.Factors.{first, single, two_taken, product_last}
+use Rattle.tree.proofs.ProductTree.{turn, ended, shallow_two, shallow_turn}
 use Rattle.tree.proofs.put_product_tree.Goals as goal
-
--- the first n factors
-abbrev first : ℕ → List ℕ → List ℕ → List Node
-first n gates depths = nodes (take n gates) (take n depths)
 
 pub multiply-product-requires : goal.multiply-product-requires
 multiply-product-requires c =
-    let factors : List Node = let l = c.loop-left in first l.left l.gates l.depths in
-    let two : 2 ≤ length (factors) = let l = c.loop-left in
-    let all = length_factors l.left l.gates l.depths (omega arith) (omega arith) in
-    omega arith in
-    let pair : Taken (factors) (node_is c.take_least-a.result) (node_is c.take_least-b.result)
-    (first (c.loop-left.left - 1 - 1) c.take_least-b.new.gates c.take_least-b.new.depths) = taken c.take_least-a.ensures.chosen c.take_least-a.ensures.others c.take_least-b.ensures.chosen c.take_least-b.ensures.others in
     let l = c.loop-left in
-    let low = shallow_two l.left (two) (pair) l.invariant.7 in
-    (omega arith, omega arith, omega arith)
+    let some : 1 < l.left = c.loop-left-test.true in
+    let a = c.take_least-a in
+    let b = c.take_least-b in
+    let pair = two_taken (l.left - 1) l.nodes a.new.nodes b.new.nodes (omega arith) (omega arith) a.auto.nodes b.auto.nodes l.left (omega arith)
+    a.ensures.chosen a.ensures.others b.ensures.chosen b.ensures.others in
+    let low = shallow_two l.left pair.0 pair.1 l.invariant.3 in
+    ((omega arith, omega arith, omega arith, omega arith), omega (arith, low.0), omega (arith, low.1))
 
 pub loop-left-preserved : goal.loop-left-preserved
 loop-left-preserved c =
-    let factors : List Node = let l = c.loop-left in first l.left l.gates l.depths in
-    let two : 2 ≤ length (factors) = let l = c.loop-left in
-    let all = length_factors l.left l.gates l.depths (omega arith) (omega arith) in
-    omega arith in
-    let pair : Taken (factors) (node_is c.take_least-a.result) (node_is c.take_least-b.result)
-    (first (c.loop-left.left - 1 - 1) c.take_least-b.new.gates c.take_least-b.new.depths) = taken c.take_least-a.ensures.chosen c.take_least-a.ensures.others c.take_least-b.ensures.chosen c.take_least-b.ensures.others in
     let l = c.loop-left in
     let some : 1 < l.left = c.loop-left-test.true in
-    let last = added (l.left - 1) (l.left - 1 - 1) _ _ c.take_least-b.new.gates c.take_least-b.new.depths (omega arith) (omega arith) (omega arith)
-    ∙ ap (λ (t : Node). first (l.left - 1 - 1) c.take_least-b.new.gates c.take_least-b.new.depths ++ (t ∷ [])) c.multiply-product.ensures.deepens in (
+    let a = c.take_least-a in
+    let b = c.take_least-b in
+    let p = c.multiply-product in
+    let pair = two_taken (l.left - 1) l.nodes a.new.nodes b.new.nodes (omega arith) (omega arith) a.auto.nodes b.auto.nodes l.left (omega arith)
+    a.ensures.chosen a.ensures.others b.ensures.chosen b.ensures.others in
+    let last = product_last (l.left - 1) l.nodes a.new.nodes b.new.nodes (omega arith) (omega arith) a.auto.nodes b.auto.nodes _ p.result.node
+    ∙ ap (λ t. first (l.left - 1 - 1) b.new.nodes ++ (t ∷ [])) p.ensures.deepens in (
       omega arith,
-      simp length-set (omega arith),
-      omega arith,
-      simp length-set (omega arith),
-      simp length-set (omega arith),
       omega arith,
       omega arith,
-      shallow_turn l.left l.current.next (omega arith) (two) (pair) last l.invariant.7,
-      turn l.invariant.8 (two) (pair) c.multiply-product.ensures.wrote c.multiply-product.ensures.moves.0 last,
+      shallow_turn l.left l.current.next (omega arith) pair.0 pair.1 last l.invariant.3,
+      turn l.invariant.4 pair.0 pair.1 p.ensures.wrote p.ensures.moves.0 last,
     )
 
 pub returns-clause-wrote : goal.returns-clause-wrote
-returns-clause-wrote c =
-    let l = c.loop-left in
-    let one : l.left ≡ 1 = omega arith in
-    let is : first l.left l.gates l.depths ≡ _ = ap (λ (k : ℕ). first k l.gates l.depths) one ∙ single l.gates l.depths (omega arith) (omega arith) in
-    let done = ended l.invariant.8 is in done.0
+returns-clause-wrote c = let l = c.loop-left in (ended l.invariant.4 (single l.left l.nodes (omega arith) (omega arith))).0
 
 pub returns-clause-output : goal.returns-clause-output
-returns-clause-output c =
-    let l = c.loop-left in
-    let one : l.left ≡ 1 = omega arith in
-    let is : first l.left l.gates l.depths ≡ _ = ap (λ (k : ℕ). first k l.gates l.depths) one ∙ single l.gates l.depths (omega arith) (omega arith) in
-    let done = ended l.invariant.8 is in done.1
+returns-clause-output c = let l = c.loop-left in (ended l.invariant.4 (single l.left l.nodes (omega arith) (omega arith))).1

@@ -1,2 +1,0 @@
--- Laws of Check and Trim.
-pub mod Outcomes

@@ -1,9 +1,0 @@
-use Rattle.step.specs.Digit.{tests_by}
-use Rattle.order.proofs.Digit.{digit_wrote}
-use Rattle.order.proofs.put_order_digit.Goals as goal
-
-pub returns : goal.returns
-returns c =
-    let a = c.args in
-    let r = c.put_tests.ensures in
-    let wrote = digit_wrote (tests_by a.p a.step) a.backward a.slots a.j c.put_difference-differed.ensures.wrote r.wrote in record { wrote = wrote; moves = (wrote.number, r.moves.1, r.moves.2); less = r.less; equal = r.equal }

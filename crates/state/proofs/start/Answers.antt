@@ -1,7 +1,0 @@
-use mathlib.Core.Path.{refl}
-use Rattle.tree.specs.Factors.{nodes}
-use Rattle.state.proofs.start.Goals as goal
-
-pub returns : goal.returns
-unfolding nodes
-returns c = refl
