@@ -3,7 +3,7 @@ ghost use Rattle.std.specs.Prelude.{◌≡◌, ◌≤◌, ◌<◌, length};
 ghost use Rattle.query.specs.Form.{record_size};
 ghost use Rattle.records.specs.Head.{slots_is};
 ghost use Rattle.card.specs.Conditions.{ReadAs, conditions_of, Taken, IsRecord, IsWeight};
-ghost use Rattle.card.specs.Parts.{form_is, records_from, weight_in, left_in, head_is, slots_said};
+ghost use Rattle.card.specs.Parts.{form_is, records_from, head_is, slots_said};
 
 use crate::{CardHead, Form, HEAD, Record};
 use records::SlotCounts;
@@ -27,28 +27,6 @@ pub struct Conditions<'a> {
     ghost taken: { Taken (conditions_of card.bytes.now) k slot },
 }
 
-// The weight in the record that the bytes begin with, or 0 where its form has none.
-fn weight_in(form: Form, bytes: &[u8]) -> u8
-    requires { record_size (form_is form) ≤ length bytes.now }
-    ensures { result ≡ weight_in (form_is form) bytes.now }
-{
-    match form {
-        Form::Plain | Form::Shared => 0,
-        Form::Scored => bytes[4],
-    }
-}
-
-// The first left slot in the record that the bytes begin with, or where its form has none the next slot that is free.
-fn left_in(form: Form, slot: u8, bytes: &[u8]) -> u8
-    requires { record_size (form_is form) ≤ length bytes.now }
-    ensures { result ≡ left_in (form_is form) slot bytes.now }
-{
-    match form {
-        Form::Plain | Form::Scored => slot,
-        Form::Shared => bytes[4],
-    }
-}
-
 impl<'a> Card<'a> {
     ghost use Rattle.card.specs.Accepted.{conditions_left};
 
@@ -67,7 +45,7 @@ impl<'a> Card<'a> {
         requires { k < self.head.count }
         ensures { IsWeight (conditions_of self.entry.bytes.now) k result }
     {
-        weight_in(self.head.form, self.records_from(k))
+        self.head.form.weight_in(self.records_from(k))
     }
 
     // Condition number k, where slot is the next that is free. No rule is tested again.
@@ -83,9 +61,9 @@ impl<'a> Card<'a> {
         Record {
             relation,
             digits: bytes[3],
-            left: left_in(form, slot, bytes),
+            left: form.left_in(slot, bytes),
             right: slot,
-            weight: weight_in(form, bytes),
+            weight: form.weight_in(bytes),
         }
     }
 

@@ -10,7 +10,7 @@ ghost use Rattle.query.specs.Reading.{read_counted, read_condition, within_limit
 ghost use Rattle.records.specs.Marks.{mark_of};
 ghost use Rattle.relations.specs.Relations.{relation_is};
 ghost use Rattle.card.specs.Accepted.{card_answer};
-ghost use Rattle.card.specs.Parts.{form_is, question_is, record_is, read_sums, head_is, read_summary, read_formed_summary};
+ghost use Rattle.card.specs.Parts.{form_is, question_is, record_is, weight_in, left_in, read_sums, head_is, read_summary, read_formed_summary};
 
 use answer::Refusal;
 use records::{LEAST_WEIGHT, MOST_WEIGHT};
@@ -74,7 +74,7 @@ pub struct Record {
 }
 
 // The digits of all conditions together, their weights, and where the last of their left slots ends.
-#[derive(Clone, Copy, Debug, PartialEq, Eq)]
+#[derive(Clone, Copy, Debug, Default, PartialEq, Eq)]
 struct Sums {
     slots: u8,
     weights: u16,
@@ -112,6 +112,28 @@ impl Form {
             Form::Plain => PLAIN_RECORD,
             Form::Scored => SCORE_RECORD,
             Form::Shared => SHARED_RECORD,
+        }
+    }
+
+    // The weight in the record that the bytes begin with, or 0 where this form has none.
+    fn weight_in(self, bytes: &[u8]) -> u8
+        requires { record_size (form_is self) ≤ length bytes.now }
+        ensures { result ≡ weight_in (form_is self) bytes.now }
+    {
+        match self {
+            Form::Plain | Form::Shared => 0,
+            Form::Scored => bytes[4],
+        }
+    }
+
+    // The first left slot in the record that the bytes begin with, or where this form has none the next slot that is free.
+    fn left_in(self, slot: u8, bytes: &[u8]) -> u8
+        requires { record_size (form_is self) ≤ length bytes.now }
+        ensures { result ≡ left_in (form_is self) slot bytes.now }
+    {
+        match self {
+            Form::Plain | Form::Scored => slot,
+            Form::Shared => bytes[4],
         }
     }
 
@@ -239,22 +261,16 @@ fn read_conditions(records: &[u8], form: Form, prime: u8, count: usize) -> Resul
     ensures { answer_of (λ sums. sums) result ≡ read_sums (form_is form) prime count records.now }
 {
     let size = form.record_size();
-    let mut slots = 0;
-    let mut weights = 0;
-    let mut left: u8 = 0;
+    let mut sums = Sums::default();
     for k in 0..count {
         let at = size * k;
-        let condition = read_record(&records[at..], form, prime, slots)?;
+        let condition = read_record(&records[at..], form, prime, sums.slots)?;
         let end = condition.left + condition.digits;
-        slots += condition.digits;
-        weights += u16::from(condition.weight);
-        left = left.max(end);
+        sums.slots += condition.digits;
+        sums.weights += u16::from(condition.weight);
+        sums.left = sums.left.max(end);
     }
-    Ok(Sums {
-        slots,
-        weights,
-        left,
-    })
+    Ok(sums)
 }
 
 // Whether the weights of a score together are not below the prime.

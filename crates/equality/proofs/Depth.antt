@@ -1,12 +1,7 @@
 -- The depths of the powers: the running power z^(2^j) is j deep, the collected power z^e is clog e deep.
 -- Assumes nothing.
-use mathlib.Core.Path.{◌≡◌, sym, ap, subst, ◌∙◌}
-use mathlib.Core.Bool.{Bool, true, false}
-use Prim.Native.Nat.{ℕ, zero, suc, ◌+◌, ◌*◌, ◌/◌, ◌%◌, ◌^◌, ◌≤◌, ◌<◌}
-use native.Mathlib.Omega.{arith}
-use native.Mathlib.Nat.{le_refl, max-eq_right, pow-succ'}
-use lib.Dec.{eqb}
-use lib.Pow.{pow_pos}
+use Rattle.std.proofs.Common.{◌≡◌, sym, ap, subst, ◌∙◌, Bool, true, false, ℕ, zero, suc, ◌+◌, ◌*◌, ◌/◌, ◌%◌, ◌^◌, ◌≤◌, ◌<◌, arith, le_refl, eqb, pow_pos}
+use native.Mathlib.Nat.{max-eq_right, pow-succ'}
 use Rattle.field.specs.Bit.{bit}
 use Rattle.field.specs.Logarithm.{clog}
 use Rattle.field.proofs.Logarithm.{clog_is_ceiling, clog_power}
@@ -29,10 +24,6 @@ pub halved : (j rest t : ℕ) → rest % 2 ≡ 0 → 2 ^ suc j * rest ≡ t → 
 halved j rest t even e =
     let half : rest ≡ 2 * (rest / 2) = omega arith in
     omega (arith, e, ap (λ (n : ℕ). 2 ^ suc j * n) half, ap (λ (n : ℕ). n * (rest / 2)) (pow-succ' 2 (suc j)))
-
-pub halved_odd : (j rest t : ℕ) → rest % 2 ≡ 1 → 2 ^ suc j * rest ≡ t → 2 ^ suc j * (2 * (rest / 2) + 1) ≡ t
-halved_odd j rest t odd e =
-    let half : 2 * (rest / 2) + 1 ≡ rest = omega arith in ap (λ (n : ℕ). 2 ^ suc j * n) half ∙ e
 
 -- p is below 256
 pub shallow : (j rest t : ℕ) → 1 ≤ rest → t < 256 → 2 ^ j * rest ≤ t → j ≤ 8
@@ -93,13 +84,6 @@ collects_later t rest k next running collected square set s e c =
     subst (Collects t (rest / 2) square.depth) (sym (ap (λ (n : segment.Node). n.depth) e))
     (collects_bit (eqb (rest % 2) 1) t rest (rest / 2) k (node_is running) (node_is collected) (node_is square)
     (omega (arith, bit_of (rest % 2) (omega arith))) (square_deep next running square s) c)
-
--- after the top bit
-pub collects_all : (t rest j depth : ℕ) → rest ≡ 0 → Collects t rest j depth → depth ≡ clog t
-collects_all t rest j depth none c =
-    let zero = ap (λ (n : ℕ). 2 ^ suc j * n) none in
-    let all : c.exponent ≡ t = omega (arith, c.sum, zero) in
-    c.deep ∙ ap clog all
 
 pub collects_shallow : (t rest j depth : ℕ) → 1 ≤ rest → t < 256 → Collects t rest j depth → (j ≤ 7) × (depth ≤ 8)
 collects_shallow t rest j depth some small c =

@@ -1,7 +1,7 @@
 -- One digit of an equality condition, and what remains of its digits and of their outputs after it.
 -- Assumes nothing.
-use Rattle.std.proofs.Common.{◌≡◌, sym, ap, ap₂, subst, ◌∙◌, false, List, [], ◌∷◌, ◌++◌, map, append_assoc, append-nil, ℕ, suc, ◌+◌, ◌-◌, ◌≤◌, ◌<◌, add-one, length, take, set, length-append, take-suc-set, arith}
-use Rattle.std.proofs.lemmas.List.{map-append, take_all}
+use Rattle.std.proofs.Common.{◌≡◌, sym, ap, ap₂, subst, ◌∙◌, false, List, [], ◌∷◌, ◌++◌, map, append_assoc, append-nil, ℕ, suc, ◌+◌, ◌-◌, ◌≤◌, ◌<◌, add-one, length, set, length-append, arith}
+use Rattle.std.proofs.lemmas.List.{take_all}
 use Rattle.circuit.specs.Gate.{Gate, Left, Right}
 use Rattle.circuit.specs.Segment as segment
 use Rattle.circuit.proofs.Records.{one_less}
@@ -18,7 +18,7 @@ use Rattle.writer.specs.declared.Pen.{Pen}
 use Rattle.writer.specs.declared.Slots.{Slots}
 use Rattle.writer.specs.Nodes.{node_is}
 use Rattle.writer.specs.Pen.{Wrote}
-use Rattle.tree.proofs.Factors.{first}
+use Rattle.tree.proofs.Factors.{first, added}
 use Rattle.writer.proofs.Writing.{then}
 use Rattle.writer.specs.Remains.{Remains}
 use Rattle.equality.specs.Slots.{equality_condition}
@@ -81,9 +81,7 @@ module _ (p : ℕ) (slots : Slots) (k n j : ℕ) (l : j < n) where
       → first j nodes ++ equality_factors p k (n - j) j ≡ all → first (j + 1) (set nodes j node) ++ later_outputs ≡ all
   outputs_next nodes node room e h =
       let before = first j nodes in
-      let placed : first (j + 1) (set nodes j node) ≡ before ++ (node_is node ∷ [])
-      = rw (add-one j) (ap (map node_is) (take-suc-set nodes j node (omega arith)) ∙ map-append node_is (take j nodes) (node ∷ [])) in
-      ap (λ (fs : List segment.Node). fs ++ later_outputs) placed
+      ap (λ (fs : List segment.Node). fs ++ later_outputs) (added j nodes node (omega arith))
       ∙ append_assoc before (node_is node ∷ []) later_outputs
       ∙ ap (λ (f : segment.Node). before ++ (f ∷ later_outputs)) e
       ∙ ap (λ (fs : List segment.Node). before ++ fs) (sym outputs_cons)

@@ -1,11 +1,7 @@
 -- The joining of an equality condition: after the digits, the product tree over their outputs makes the condition whole.
 -- Each output is as deep as its zero test, so the tree stays far below the most gates.
 -- Assumes nothing.
-use mathlib.Core.Path.{◌≡◌, ap, ap₂}
-use mathlib.Core.List.{List}
-use Prim.Native.Nat.{ℕ, zero, suc, ◌+◌, ◌-◌, ◌≤◌, ◌<◌}
-use native.Mathlib.Omega.{arith}
-use lib.ListN.{length, length-append}
+use Rattle.std.proofs.Common.{◌≡◌, ap, ap₂, List, ℕ, zero, suc, ◌+◌, ◌-◌, ◌≤◌, ◌<◌, arith, length, length-append}
 use Rattle.field.proofs.Logarithm.{clog_is_ceiling}
 use Rattle.digits.specs.Number.{most_digits}
 use Rattle.field.specs.Byte.{byte_values}

@@ -2,13 +2,8 @@
 -- which is enough to bound the splits; and its gates are those of its halves and two, where it holds digit 0.
 -- The tree by induction over the bound of the splits; the gates by the halving of flog.
 -- Assumes nothing.
-use mathlib.Core.Path.{◌≡◌, refl, ap₂}
-use mathlib.Core.Bool.{Bool, true, false}
-use Prim.Native.Nat.{ℕ, zero, suc, ◌+◌, ◌-◌, ◌*◌, ◌/◌, ◌≤◌, ◌<◌}
-use native.Mathlib.Omega.{arith}
-use lib.Dec.{leb}
-use lib.ListN.{length}
-use borrow.Author.Tests.{le-leb, lt-leb, leb-false}
+use Rattle.std.proofs.Common.{◌≡◌, refl, ap₂, Bool, true, false, ℕ, zero, suc, ◌+◌, ◌-◌, ◌*◌, ◌/◌, ◌≤◌, ◌<◌, arith, leb, length, le-leb, leb-false}
+use Rattle.std.proofs.lemmas.Bool.{lt-leb}
 use Rattle.field.proofs.Logarithm.{flog_half}
 use Rattle.circuit.specs.Segment.{Node}
 use Rattle.circuit.specs.Tree.{Tree, leaf, join}

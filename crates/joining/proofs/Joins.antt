@@ -1,10 +1,7 @@
 -- What joining has written: nothing for a single digit, and for more the gates of both halves and then those of the join.
 -- Each law opens the definition at the tree of its run; at a join `then` puts the parts together.
 -- Assumes nothing.
-use mathlib.Core.Path.{◌≡◌, refl}
-use mathlib.Core.List.{List, [], ◌∷◌, ◌++◌}
-use Prim.Native.Nat.{ℕ, suc, ◌+◌, ◌-◌, ◌/◌, ◌≤◌, ◌<◌}
-use native.Mathlib.Nat.{zero-add}
+use Rattle.std.proofs.Common.{◌≡◌, refl, List, [], ◌∷◌, ◌++◌, ℕ, suc, ◌+◌, ◌-◌, ◌/◌, ◌≤◌, ◌<◌, zero-add}
 use Rattle.circuit.specs.Gate.{Mul}
 use Rattle.circuit.specs.Segment.{Node, times}
 use Rattle.comparison.specs.Joining.{less_join, joined_less, join_run, join_lowest, run_from, whole_run}

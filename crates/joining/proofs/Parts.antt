@@ -1,9 +1,8 @@
 -- Laws of digits that are joined by parts: the run of a part of the tests is that of the same digits among all of them.
 -- By the induction over halves.
 -- Assumes nothing.
-use Rattle.std.proofs.Common.{◌≡◌, refl, ap, List, [], ◌∷◌, ◌++◌, ℕ, suc, ◌+◌, ◌-◌, ◌*◌, ◌/◌, ◌≤◌, ◌<◌, length, take, drop, length-drop, get_or-drop, arith}
 use Rattle.std.proofs.lemmas.List.{length-take-le, get_or-take}
-use native.Mathlib.Nat.{add-zero, zero-add, add_assoc}
+use Rattle.std.proofs.Common.{◌≡◌, refl, ap, List, [], ◌∷◌, ◌++◌, ℕ, suc, ◌+◌, ◌-◌, ◌*◌, ◌/◌, ◌≤◌, ◌<◌, length, take, drop, length-drop, get_or-drop, arith, add-zero, zero-add, add_assoc}
 use Rattle.circuit.specs.Gate.{Mul}
 use Rattle.circuit.specs.Segment.{Node, times}
 use Rattle.circuit.specs.Tree.{Tree}

@@ -53,11 +53,11 @@ impl OrderTests<'_> {
             },
         };
         for i in 1..half {
-            let power = powers::power_at(z, p, 2 * i + 1, &tables.depths);
+            let power = tables.power_at(self.m, z, 2 * i + 1);
             let constant = tables.constants[usize::from(i)];
             sum = writer::add_term(table, sum.pen, sum.node, power, constant);
         }
-        let top = powers::power_at(z, p, p - 1, &tables.depths);
+        let top = tables.power_at(self.m, z, p - 1);
         let constant = tables.constants[usize::from(half)];
         writer::add_term(table, sum.pen, sum.node, top, constant)
     }
@@ -74,7 +74,7 @@ impl OrderTests<'_> {
         let z = k + 2;
         let raised = powers::put_powers(table, pen, z, self.m);
         let less = self.put_terms(table, raised, z);
-        let top = powers::power_at(z, self.m.p, self.m.p - 1, &self.tables.depths);
+        let top = self.tables.power_at(self.m, z, self.m.p - 1);
         let equal = put_equal(table, less.pen, j, top);
         Tested {
             pen: equal.pen,
@@ -149,7 +149,10 @@ impl OrderTests<'_> {
         ensures output { node_is result.node ≡ (order_segment (tests_by self.entry.m.p self.entry.step) (order_condition backward slots) pen.next).output }
     {
         let none = Node { gate: 0, depth: 0 };
-        let mut all = [Tests { less: none, equal: none }; digits::MOST_DIGITS];
+        let mut all = [Tests {
+            less: none,
+            equal: none,
+        }; digits::MOST_DIGITS];
         let tests = &mut all[..usize::from(slots.count)];
         let last = self.put_digits(table, pen, backward, slots, tests);
         joining::join_digits(table, last, tests)
@@ -163,7 +166,8 @@ fn put_equal(table: &mut [u8], pen: Pen, j: u16, top: Node) -> Written
     ensures moves { Moved pen (length (unless_lowest j (Flip top.gate ∷ []))) result.pen }
     ensures output { (j ≡ 0 → node_is result.node ≡ node_is top) × (0 < j → (result.node.gate ≡ pen.next) × (result.node.depth ≡ top.depth)) }
 {
-    if j == 0 {
+    let lowest = j == 0;
+    if lowest {
         return Written { pen, node: top };
     }
     let gate = pen.next;

@@ -2,7 +2,6 @@
 -- Assumes nothing.
 use Rattle.std.proofs.Common.{◌≡◌, ap, ◌∙◌, List, ◌++◌, ℕ, zero, suc, ◌+◌, ◌-◌, ◌*◌, ◌/◌, ◌^◌, ◌≤◌, ◌<◌, arith, mul-le-mul_right, length, length-append}
 use native.Mathlib.Nat.{pow-succ'}
-use Rattle.field.specs.Byte.{byte_values}
 use Rattle.field.proofs.Logarithm.{clog_is_ceiling, clog_power}
 use Rattle.writer.specs.declared.Pen.{Pen}
 use Rattle.writer.specs.Pen.{Wrote}

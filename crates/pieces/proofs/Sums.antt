@@ -3,20 +3,14 @@
 use Rattle.std.proofs.Common.{◌≡◌, ap, ◌∙◌, inl, ℕ, ◌+◌, ◌≤◌, arith, get_or}
 use Rattle.field.specs.Half.{half}
 use Rattle.field.specs.Logarithm.{clog}
-use Rattle.circuit.proofs.Segment.{node_same}
-use Rattle.comparison.specs.OrderDigit.{power_count, power_gate, low_power}
+use Rattle.comparison.specs.OrderDigit.{power_gate, low_power}
 use Rattle.comparison.proofs.Powers.{gate_low}
-use Rattle.step.specs.Pieces.{Sum, held}
 use Rattle.powers.specs.declared.OrderTables.{OrderTables}
 use Rattle.powers.specs.Prepared.{Prepared}
-use Rattle.powers.proofs.Powers.{place_within}
 use Rattle.writer.specs.declared.Node.{Node}
 
--- z^e for e up to (p-1)/2: where it stands, and the node that is read for it
+-- z^e for e up to (p-1)/2: the node that is read for it
 module _ (p e : ℕ) (one : 1 ≤ e) (low : e ≤ half p) where
-  pub power_place : power_gate p 0 e ≤ power_count p
-  power_place = place_within p e (omega arith)
-
   pub power_read : (z : ℕ) (tables : OrderTables) {power : Node} → Prepared p tables
       → (power.gate ≡ z + power_gate p 0 e) × (power.depth ≡ get_or tables.depths (power_gate p 0 e) 0)
       → (power.gate ≡ low_power z e) × (power.depth ≡ clog e)

@@ -60,7 +60,7 @@ impl Polynomial<'_> {
     {
         let mut last = Summed { pen, sum: None };
         for e in 1..self.step + 1 {
-            let power = powers::power_at(self.z, self.m.p, e, &self.tables.depths);
+            let power = self.tables.power_at(self.m, self.z, e);
             let bits = self.coefficient_at(o + e);
             last = next_term(table, last.pen, last.sum, power, bits);
         }
@@ -72,7 +72,7 @@ impl Polynomial<'_> {
         requires { i < 2 * byte_values }
         ensures { (node_is result ≡ split_node self.entry.z self.entry.step i) × (result.depth < most_gates) }
     {
-        let first = powers::power_at(self.z, self.m.p, self.step, &self.tables.depths);
+        let first = self.tables.power_at(self.m, self.z, self.step);
         Node {
             gate: first.gate + i,
             depth: first.depth + i,

@@ -1,13 +1,13 @@
 -- The depths of the powers of z, and what is left of the powers to write. Each power has a place of its own after z, so an entry set for one
 -- leaves those of the others as they were.
 -- Assumes nothing.
-use Rattle.std.proofs.Common.{◌≡◌, sym, ap₂, ◌∙◌, ◌⊎◌, inl, inr, ◌≢◌, lt_of_not-le, List, ◌∷◌, map, ℕ, suc, ◌+◌, ◌-◌, ◌*◌, ◌/◌, ◌%◌, ◌≤◌, ◌<◌, arith, add-one, length, get_or, set, get_or-set_same, get_or-set_other}
+use Rattle.std.proofs.Common.{◌≡◌, sym, ◌∙◌, ◌⊎◌, inl, inr, ◌≢◌, lt_of_not-le, List, ◌∷◌, map, ℕ, suc, ◌+◌, ◌-◌, ◌*◌, ◌/◌, ◌%◌, ◌≤◌, ◌<◌, arith, add-one, length, get_or, set, get_or-set_same, get_or-set_other}
 use native.Mathlib.Decide.{dec_le}
 use Rattle.field.specs.Half.{half}
 use Rattle.field.specs.Logarithm.{clog}
 use Rattle.field.specs.Polynomials.{every_second}
 use Rattle.field.proofs.Logarithm.{clog_small}
-use Rattle.comparison.specs.OrderDigit.{ascending, next_odd, odd_exponents, power_of, power_count, power_gate}
+use Rattle.comparison.specs.OrderDigit.{ascending, power_of, power_count, power_gate}
 use Rattle.comparison.proofs.Powers.{gate_low, gate_high}
 use Rattle.powers.specs.Powers.{IsWritten, Deep}
 

@@ -41,6 +41,18 @@ impl OrderTables {
         constants::put_order_constants(m, &mut self.constants);
         put_power_depths(m, &mut self.depths);
     }
+
+    // The power z^i with its depth.
+    pub fn power_at(&self, m: Modulus, z: u16, i: u16) -> Node
+        requires { (1 ≤ i) × (i ≤ m.p - 1) × (z ≤ most_gates) }
+        ensures { (result.gate ≡ z + power_gate m.p 0 i) × (result.depth ≡ get_or self.now.depths (power_gate m.p 0 i) 0) }
+    {
+        let place = power_place(m, i);
+        Node {
+            gate: z + place,
+            depth: self.depths[usize::from(place)],
+        }
+    }
 }
 
 // The power z^i, from those of its halves.
@@ -93,11 +105,11 @@ pub fn put_powers(table: &mut [u8], pen: Pen, z: u16, m: Modulus) -> Pen
 }
 
 // How far after z the power z^i stands.
-fn power_place(p: u16, i: u16) -> u16
-    requires { (1 ≤ i) × (i ≤ p - 1) × (p < byte_values) }
-    ensures { result ≡ power_gate p 0 i }
+fn power_place(m: Modulus, i: u16) -> u16
+    requires { (1 ≤ i) × (i ≤ m.p - 1) }
+    ensures { result ≡ power_gate m.p 0 i }
 {
-    let half = (p - 1) / 2;
+    let half = (m.p - 1) / 2;
     if i <= half {
         return i - 1;
     }
@@ -110,10 +122,10 @@ fn put_power_depth(m: Modulus, i: u16, depths: &mut [u16])
     requires deep { Deep m.p depths.old i }
     ensures { Deep m.p depths.new (i + 1) }
 {
-    let low = i / 2 - 1;
-    let high = (i + 1) / 2 - 1;
-    let depth = depths[low as usize].max(depths[high as usize]) + 1;
-    depths[power_place(m.p, i) as usize] = depth;
+    let low = depths[usize::from(i / 2 - 1)];
+    let high = depths[usize::from((i + 1) / 2 - 1)];
+    let depth = low.max(high) + 1;
+    depths[usize::from(power_place(m, i))] = depth;
 }
 
 // The depths of z and its powers: z^i for i = 2 to (p-1)/2, for the odd i above that, and for p-1.
@@ -127,17 +139,5 @@ fn put_power_depths(m: Modulus, depths: &mut [u16])
         if i <= half || i % 2 == 1 || i == m.p - 1 {
             put_power_depth(m, i, depths);
         }
-    }
-}
-
-// The power z^i with its depth.
-pub fn power_at(z: u16, p: u16, i: u16, depths: &[u16]) -> Node
-    requires { (1 ≤ i) × (i ≤ p - 1) × (p < byte_values) × (z ≤ most_gates) × (power_gate p 0 i < length depths.now) }
-    ensures { (result.gate ≡ z + power_gate p 0 i) × (result.depth ≡ get_or depths.now (power_gate p 0 i) 0) }
-{
-    let place = power_place(p, i);
-    Node {
-        gate: z + place,
-        depth: depths[place as usize],
     }
 }

@@ -1,4 +1,4 @@
 -- Laws of Run.
+pub mod Signed
 pub mod Value
 pub mod Running
-pub mod RunOutcome

@@ -1,27 +1,21 @@
 // Run.
 #![tactic(auto)]
 
-ghost use Rattle.std.specs.Prelude.{◌≡◌, true, ◌++◌, ◌+◌, ◌*◌, ◌≤◌, length, drop};
-ghost use Rattle.answer.specs.Outcome.{accepted};
+ghost use Rattle.std.specs.Prelude.{◌≡◌, true, not, ◌&&◌, ◌||◌, ◌++◌, ◌≤◌, eqb, length, drop};
+ghost use Rattle.digits.specs.Number.{all_below};
 ghost use Rattle.circuit.specs.Constant.{is_constant, constant, signed};
 ghost use Rattle.circuit.specs.Outcomes.{running};
-ghost use Rattle.circuit.specs.Reading.{read_fields, read_gate, read_gates, reading};
+ghost use Rattle.circuit.specs.Reading.{read_fields, read_gate, head_of, reading};
+ghost use Rattle.circuit.specs.Table.{left_slots, right_slots};
 ghost use Rattle.circuit.specs.Value.{values};
 ghost use Rattle.records.specs.Head.{head_is};
-ghost use Rattle.records.specs.Read.{gates_read};
+ghost use Rattle.records.specs.Kind.{kind_number};
 ghost use Rattle.runner.specs.Ran.{run_answer};
 ghost use Rattle.runner.specs.Running.{CanRun, value_in, values_in};
 
 use answer::Refusal;
-use reader::TableRead;
-use records::{RECORD, TableHead};
-
-// What Run answers.
-#[derive(Clone, Copy)]
-pub enum Ran {
-    Output(u8),
-    Refused(Refusal),
-}
+use reader::Table;
+use records::{Kind, TableHead};
 
 // The number below p that a constant is, from its sixteen bits.
 fn constant_of(b: usize, prime: u8) -> u8
@@ -31,111 +25,116 @@ fn constant_of(b: usize, prime: u8) -> u8
     if b < 0x8000 {
         return b as u8;
     }
-    (b + arithmetic::wide(prime) - 0x10000) as u8
+    let p = usize::from(prime);
+    (b + p - 0x10000) as u8
 }
 
-// The value of a gate that comes after others, whose values are given.
-fn value_of(
-    kind: u8,
-    a: usize,
-    b: usize,
+// What the gates of a table run on: the table and its head, and for each side a list of values that is as long as the side has slots.
+#[derive(Clone, Copy)]
+struct Inputs<'a> {
+    table: Table<'a>,
     head: TableHead,
-    left: &[u8],
-    right: &[u8],
-    earlier: &[u8],
-) -> u8
-    requires { CanRun (head_is head) left.now right.now (read_fields (head_is head) (length earlier.now) kind a b) }
-    ensures { result ≡ value_in (values head.prime left.now right.now) earlier.now (read_fields (head_is head) (length earlier.now) kind a b) }
-{
-    let prime = head.prime;
-    match kind {
-        1 => left[a],
-        2 => right[a],
-        3 => arithmetic::add_mod(earlier[a], earlier[b], prime),
-        4 => arithmetic::sub_mod(earlier[a], earlier[b], prime),
-        5 => arithmetic::mul_mod(earlier[a], constant_of(b, prime), prime),
-        6 => arithmetic::sub_mod(1, earlier[a], prime),
-        7 => arithmetic::mul_mod(earlier[a], earlier[b], prime),
-        _ => 0,
+    left: &'a [u8],
+    right: &'a [u8],
+    ghost same: { head_is head ≡ head_of table.bytes.now },
+    ghost lefts: { length left.now ≡ left_slots (head_is head) },
+    ghost rights: { length right.now ≡ right_slots (head_is head) },
+}
+
+impl<'a> Inputs<'a> {
+    // The value of a gate of a kind that comes after others, whose values are given.
+    fn value_of(self, kind: Kind, a: usize, b: usize, earlier: &[u8]) -> u8
+        requires { CanRun (read_fields (head_is self.head) (length earlier.now) (kind_number kind) a b) }
+        ensures { result ≡ value_in (values self.entry.head.prime self.entry.left.now self.entry.right.now) earlier.now (read_fields (head_is self.entry.head) (length earlier.now) (kind_number kind) a b) }
+    {
+        let prime = self.head.prime;
+        match kind {
+            Kind::Left => self.left[a],
+            Kind::Right => self.right[a],
+            Kind::Add => arithmetic::add_mod(earlier[a], earlier[b], prime),
+            Kind::Sub => arithmetic::sub_mod(earlier[a], earlier[b], prime),
+            Kind::Scale => arithmetic::mul_mod(earlier[a], constant_of(b, prime), prime),
+            Kind::Flip => arithmetic::sub_mod(1, earlier[a], prime),
+            Kind::Mul => arithmetic::mul_mod(earlier[a], earlier[b], prime),
+        }
+    }
+
+    // The value of the gate whose record the bytes begin with. Its kind was read, so that it has one.
+    fn value_at(self, bytes: &[u8], earlier: &[u8]) -> u8
+        requires { (8 ≤ length bytes.now) × CanRun (read_gate (head_is self.head) (length earlier.now) bytes.now) }
+        ensures { result ≡ value_in (values self.entry.head.prime self.entry.left.now self.entry.right.now) earlier.now (read_gate (head_is self.entry.head) (length earlier.now) bytes.now) }
+    {
+        let a = records::u16_at(bytes, 4);
+        let b = records::u16_at(bytes, 6);
+        match Kind::try_from(bytes[2]) {
+            Ok(kind) => self.value_of(kind, a, b, earlier),
+            Err(_) => 0,
+        }
+    }
+
+    // Puts the values of the gates at the start of work.
+    fn run_gates(self, work: &mut [u8])
+        requires { self.table.outline.gates ≤ length work.old }
+        ensures { work.new ≡ values_in (values self.entry.head.prime self.entry.left.now self.entry.right.now) (reading self.entry.table.bytes.now) ++ drop self.entry.table.outline.gates work.old }
+    {
+        let table = self.table;
+        for k in 0..usize::from(table.outline.gates) {
+            let value = self.value_at(table.record(k), &work[..k]);
+            work[k] = value;
+        }
     }
 }
 
-// The value of the gate whose record the bytes begin with.
-fn value_at(bytes: &[u8], head: TableHead, left: &[u8], right: &[u8], earlier: &[u8]) -> u8
-    requires { (8 ≤ length bytes.now) × CanRun (head_is head) left.now right.now (read_gate (head_is head) (length earlier.now) bytes.now) }
-    ensures { result ≡ value_in (values head.prime left.now right.now) earlier.now (read_gate (head_is head) (length earlier.now) bytes.now) }
+// Whether the left or right list is not as long as its side has slots.
+fn lengths_wrong(head: TableHead, left: &[u8], right: &[u8]) -> bool
+    ensures { result ≡ (not (eqb (length left.now) (left_slots (head_is head))) || not (eqb (length right.now) (right_slots (head_is head)))) }
 {
-    value_of(
-        bytes[2],
-        records::u16_at(bytes, 4),
-        records::u16_at(bytes, 6),
+    let lefts = head.slots.left();
+    let rights = head.slots.right();
+    left.len() != lefts || right.len() != rights
+}
+
+// Whether a value of the left or right list is the prime or more.
+fn values_wrong(head: TableHead, left: &[u8], right: &[u8]) -> bool
+    ensures { result ≡ not (all_below head.prime left.now && all_below head.prime right.now) }
+{
+    let prime = u64::from(head.prime);
+    !(coding::are_below(left, prime) && coding::are_below(right, prime))
+}
+
+// Run on a table that was read.
+fn run_read(table: Table<'_>, left: &[u8], right: &[u8], work: &mut [u8]) -> Result<u8, Refusal>
+    ensures answers { run_answer result ≡ (running table.entry.bytes.now left.now right.now work.old).answer }
+    ensures leaves { work.new ≡ (running table.entry.bytes.now left.now right.now work.old).lent }
+{
+    let head = records::head_at(table.bytes);
+    if lengths_wrong(head, left, right) {
+        return Err(Refusal::ListLength);
+    }
+    if values_wrong(head, left, right) {
+        return Err(Refusal::ValueTooLarge);
+    }
+    let count = usize::from(table.outline.gates);
+    if work.len() < count {
+        return Err(Refusal::WorkBufferTooSmall);
+    }
+    let inputs = Inputs {
+        table,
         head,
         left,
         right,
-        earlier,
-    )
-}
-
-// Puts the values of the gates at the start of work.
-fn run_gates(
-    table: &[u8],
-    head: TableHead,
-    gates: usize,
-    left: &[u8],
-    right: &[u8],
-    work: &mut [u8],
-)
-    requires { (8 * (gates + 1) ≤ length table.now) × (gates ≤ length work.old) × CanRun (head_is head) left.now right.now (read_gates (head_is head) 0 gates (drop 8 table.now)) }
-    ensures { work.new ≡ values_in (values head.prime left.now right.now) (read_gates (head_is head) 0 gates (drop 8 table.now)) ++ drop gates work.old }
-{
-    let mut k = 0;
-    while k < gates {
-        let at = RECORD * (k + 1);
-        let value = value_at(&table[at..], head, left, right, &work[..k]);
-        work[k] = value;
-        k += 1;
-    }
-}
-
-// Run on a table of count gates that Check accepts.
-fn run_checked(table: &[u8], count: usize, left: &[u8], right: &[u8], work: &mut [u8]) -> Ran
-    requires { gates_read (reading table.now) ≡ accepted count }
-    ensures answers { run_answer result ≡ (running table.now left.now right.now work.old).answer }
-    ensures leaves { work.new ≡ (running table.now left.now right.now work.old).lent }
-{
-    let head = records::head_at(table);
-    let slots = head.slots;
-    let left_slots = records::left_slots(slots);
-    let right_slots = records::right_slots(slots);
-    let prime = arithmetic::wide(head.prime) as u64;
-    if left.len() != left_slots {
-        return Ran::Refused(Refusal::ListLength);
-    }
-    if right.len() != right_slots {
-        return Ran::Refused(Refusal::ListLength);
-    }
-    if !coding::are_below(left, prime) {
-        return Ran::Refused(Refusal::ValueTooLarge);
-    }
-    if !coding::are_below(right, prime) {
-        return Ran::Refused(Refusal::ValueTooLarge);
-    }
-    if work.len() < count {
-        return Ran::Refused(Refusal::WorkBufferTooSmall);
-    }
-    run_gates(table, head, count, left, right, work);
+    };
+    inputs.run_gates(work);
     let output = work[count - 1];
-    Ran::Output(output)
+    Ok(output)
 }
 
 // The values of all gates at the start of work and the last of them as the answer, or a refusal,
 // which leaves work as it is.
-pub fn run(table: &[u8], left: &[u8], right: &[u8], work: &mut [u8]) -> Ran
+pub fn run(table: &[u8], left: &[u8], right: &[u8], work: &mut [u8]) -> Result<u8, Refusal>
     ensures answers { run_answer result ≡ (running table.now left.now right.now work.old).answer }
     ensures leaves { work.new ≡ (running table.now left.now right.now work.old).lent }
 {
-    match reader::read_table(table) {
-        TableRead::Read(told) => run_checked(table, told.gates as usize, left, right, work),
-        TableRead::Refused(why) => Ran::Refused(why),
-    }
+    let read = reader::read_table(table)?;
+    run_read(read, left, right, work)
 }

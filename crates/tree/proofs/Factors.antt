@@ -1,10 +1,10 @@
 -- Laws of factors held as nodes: taking out the first of the least depths is the product tree's choice. By induction over the nodes.
 -- Assumes nothing.
-use Rattle.std.proofs.Common.{◌≡◌, refl, sym, ap, ◌∙◌, List, [], ◌∷◌, ◌++◌, map, ℕ, zero, suc, ◌+◌, ◌-◌, ◌≤◌, ◌<◌, Bool, true, false, length, get_or, take, drop, set, length-append, take-suc-set, arith}
 use Rattle.std.specs.List.{remove}
 use Rattle.std.proofs.lemmas.Bool.{le-leb, lt-leb}
-use Rattle.std.proofs.lemmas.List.{length-map, map-append, get_or-map, take_at, take-append-le, length-take-le}
+use Rattle.std.proofs.lemmas.List.{length-map, map-append, get_or-map, take_at, take-append-le, length-take-le, drop-map, get_or-take}
 use Rattle.std.proofs.lemmas.List.Edits.{length-remove}
+use Rattle.std.proofs.Common.{◌≡◌, refl, sym, ap, ◌∙◌, List, [], ◌∷◌, ◌++◌, map, ℕ, zero, suc, ◌+◌, ◌-◌, ◌≤◌, ◌<◌, Bool, true, false, length, get_or, take, drop, set, length-append, take-suc-set, add-one, drop-cons, arith}
 use native.Mathlib.Decide.{dec_lt}
 use Rattle.circuit.specs.Every.{Every}
 use Rattle.circuit.specs.ProductTree.{Choice, goes_first, pick, least, choose}
@@ -109,20 +109,34 @@ pub others_first : (nodes : List Node) (place : ℕ) (x : Node) → place < leng
     → take (length nodes - 1) (remove nodes place ++ (x ∷ [])) ≡ remove nodes place
 others_first nodes place x l = take_at (remove nodes place) (x ∷ []) _ (omega (arith, length-remove nodes place l))
 
--- ---- two factors taken out of the first n + 1, and their product in their place
+-- ---- the first factors
 
--- the first n factors
+-- the first n
 abbrev pub first : ℕ → List Node → List segment.Node
 first n nodes = map node_is (take n nodes)
 
-length_first : (n : ℕ) (nodes : List Node) → n ≤ length nodes → length (first n nodes) ≡ n
+pub length_first : (n : ℕ) (nodes : List Node) → n ≤ length nodes → length (first n nodes) ≡ n
 length_first n nodes l = length-map (take n nodes) node_is ∙ length-take-le n nodes l
 
--- a single factor
+-- a single one
 pub single : (n : ℕ) (nodes : List Node) → n ≡ 1 → n ≤ length nodes
     → first n nodes ≡ node_is (get_or nodes 0 (record { gate = 0; depth = 0 })) ∷ []
 single n [] one l = absurd (omega arith)
 single n (x ∷ nodes) one l = rw one refl
+
+-- one more at the end
+pub added : (m : ℕ) (nodes : List Node) (node : Node) → m < length nodes
+    → first (m + 1) (set nodes m node) ≡ first m nodes ++ (node_is node ∷ [])
+added m nodes node l = rw (add-one m) (ap (map node_is) (take-suc-set nodes m node l) ∙ map-append node_is (take m nodes) (node ∷ []))
+
+-- the one at a place, and those after it
+pub first_from : (n k : ℕ) (nodes : List Node) → k < n → n ≤ length nodes
+    → drop k (first n nodes) ≡ node_is (get_or nodes k (record { gate = 0; depth = 0 })) ∷ drop (k + 1) (first n nodes)
+first_from n k nodes l room =
+    rw (add-one k, drop-map node_is k (take n nodes), drop-map node_is (suc k) (take n nodes), ← get_or-take n nodes k (record { gate = 0; depth = 0 }) l)
+    (ap (map node_is) (drop-cons (take n nodes) k (record { gate = 0; depth = 0 }) (omega (arith, length-take-le n nodes room))))
+
+-- ---- two factors taken out of the first n + 1, and their product in their place
 
 -- what the two turns leave: one node fewer is looked at the second time
 module _ (n : ℕ) (nodes once twice : List Node) (some : 1 ≤ n) (room : n + 1 ≤ length nodes)
@@ -147,9 +161,8 @@ module _ (n : ℕ) (nodes once twice : List Node) (some : 1 ≤ n) (room : n + 1
   pub product_last : (rest : List Node) (product : Node) → first n (set (twice ++ rest) (n - 1) product) ≡ first (n - 1) twice ++ (node_is product ∷ [])
   product_last rest product =
       let m : ℕ = n - 1 in
-      let one : n ≡ suc m = omega arith in
+      let one : n ≡ m + 1 = omega arith in
       let long : m < length (twice ++ rest) = omega (arith, length-append twice rest, long_twice) in
       ap (λ (k : ℕ). first k (set (twice ++ rest) m product)) one
-      ∙ ap (map node_is) (take-suc-set (twice ++ rest) m product long)
-      ∙ ap (λ (t : List Node). map node_is (t ++ (product ∷ []))) (take-append-le m twice rest (omega (arith, long_twice)))
-      ∙ map-append node_is (take m twice) (product ∷ [])
+      ∙ added m (twice ++ rest) product long
+      ∙ ap (λ (t : List Node). map node_is t ++ (node_is product ∷ [])) (take-append-le m twice rest (omega (arith, long_twice)))

@@ -1,12 +1,7 @@
 -- Writing a product tree, one product at a time: what is left to write gives the whole. A product brings the tree over the next factors,
 -- and with one factor left there is nothing to write. Depths grow by one at most while factors become one fewer.
 -- Assumes nothing.
-use mathlib.Core.Path.{◌≡◌, refl, sym, ap, ◌∙◌}
-use mathlib.Core.List.{List, [], ◌∷◌, ◌++◌}
-use Prim.Native.Nat.{ℕ, suc, ◌+◌, ◌-◌, ◌≤◌}
-use native.Mathlib.Omega.{arith}
-use native.Mathlib.Numerals.{add-one}
-use lib.ListN.{length}
+use Rattle.std.proofs.Common.{◌≡◌, refl, sym, ap, ◌∙◌, List, [], ◌∷◌, ◌++◌, ℕ, suc, ◌+◌, ◌-◌, ◌≤◌, arith, add-one, length}
 use Rattle.circuit.specs.Gate.{Mul}
 use Rattle.circuit.specs.ProductTree.{least, choose, multiply, product_tree}
 use Rattle.circuit.specs.Segment.{Node, Segment, times}

@@ -1,6 +1,6 @@
 -- How many products and squares a gate is.
 -- Assumes nothing.
-use Rattle.std.proofs.Common.{◌≡◌, ℕ, refl, [], ◌∷◌, arith}
+use Rattle.std.proofs.Common.{◌≡◌, ℕ, refl, [], ◌∷◌}
 use Rattle.std.proofs.lemmas.Bool.{eq-eqb, ne_eqb}
 use Rattle.circuit.specs.Count.{count, is_product, is_square}
 use Rattle.writer.specs.declared.Gate.{Gate}

@@ -1,9 +1,9 @@
 -- Laws of writing: nothing is written, one gate is, and what is written one after the other. Bytes laid over a table one part after the other
 -- are the whole laid over it, and counts add up.
 -- Assumes nothing.
-use Rattle.std.proofs.Common.{◌≡◌, refl, sym, ap, ◌∙◌, subst, List, [], ◌∷◌, ◌++◌, append_assoc, ℕ, ◌+◌, ◌*◌, ◌≤◌, length, take, drop, arith, length-append}
 use Rattle.std.proofs.lemmas.List.{drop-drop}
 use Rattle.std.proofs.lemmas.List.Edits.{sets, sets-eq}
+use Rattle.std.proofs.Common.{◌≡◌, refl, sym, ap, ◌∙◌, subst, List, [], ◌∷◌, ◌++◌, append_assoc, ℕ, ◌+◌, ◌*◌, ◌≤◌, length, take, drop, arith, length-append}
 use borrow.Rule.Slice.PartMut.{put_mid}
 use Rattle.answer.proofs.Lent.{sets_append}
 use Rattle.circuit.specs.Count.{count, is_product, is_square}

@@ -68,7 +68,7 @@ pub enum Gate {
 
 impl Gate {
     // The eight bytes of its record.
-    fn record(self) -> [u8; 8]
+    fn record(self) -> [u8; RECORD]
         ensures { result ≡ gate_bytes (gate_is self) }
     {
         match self {
@@ -116,7 +116,7 @@ impl Pen {
 }
 
 // The record of a gate of a kind over a and b.
-fn record_of(kind: Kind, a: u16, b: u16) -> [u8; 8]
+fn record_of(kind: Kind, a: u16, b: u16) -> [u8; RECORD]
     ensures { result ≡ record_bytes (row (kind_number kind) a b) }
 {
     let mark = GATE_MARK;

@@ -12,14 +12,14 @@ pub overflow_add-end : goal.overflow_add-end
 overflow_add-end c =
     omega (arith, left_few _ _ _ _ _ _ _ _ c.record_size-size.ensures c.loop-k-test.true c.loop-k.invariant (record_is c.in_ok-condition.condition) c.in_ok-condition.ensures c.requires.0)
 
-pub overflow_add-slots : goal.overflow_add-slots
-overflow_add-slots c =
+pub overflow_add-sums : goal.overflow_add-sums
+overflow_add-sums c =
     let after = adds _ _ _ _ _ _ _ _ c.record_size-size.ensures c.loop-k-test.true c.loop-k.invariant (record_is c.in_ok-condition.condition) c.in_ok-condition.ensures (omega arith) in
     omega (arith, after.few, c.loop-k-test.true, c.requires.0)
 
 pub loop-k-preserved : goal.loop-k-preserved
 loop-k-preserved c =
-    rw (c.from-weights.ensures, c.max-left.ensures)
+    rw (c.from.ensures, c.max.ensures)
     (adds _ _ _ _ _ _ _ _ c.record_size-size.ensures c.loop-k-test.true c.loop-k.invariant (record_is c.in_ok-condition.condition) c.in_ok-condition.ensures (omega arith))
 
 pub returns : goal.returns

@@ -7,5 +7,4 @@ use Rattle.card.proofs.read_conditions.Given as goal
 
 abbrev pub invariant-loop-k : goal.invariant-loop-k
 invariant-loop-k l =
-    AddsUp (form_is l.form) l.prime l.records l.count l.k (record { slots = l.slots; weights = l.weights; left = l.left })
-    (read_sums (form_is l.form) l.prime l.count l.records)
+    AddsUp (form_is l.form) l.prime l.records l.count l.k l.sums (read_sums (form_is l.form) l.prime l.count l.records)

@@ -6,8 +6,8 @@ use Rattle.relations.specs.Relations.{relation_is}
 use Rattle.condition.proofs.Relations.{order_is, equality_is, size, ends, either_room, either_moved}
 use Rattle.condition.proofs.put_condition.Goals as goal
 
-pub put_order-order-requires : goal.put_order-order-requires
-put_order-order-requires c =
+pub put_order-order-requires-clause-room : goal.put_order-order-requires-clause-room
+put_order-order-requires-clause-room c =
     let a = c.args in
     let t = tests_by a.m.p a.step in
     let asked = c.requires.suits in
@@ -15,11 +15,8 @@ put_order-order-requires c =
     let order = order_is t a.m.p (relation_is a.relation) a.slots a.pen.next flipped c.is_backward-backward.result
     (sym c.is_order.ensures ∙ c.if-is_order.true) c.is_flipped-flipped.ensures c.is_backward-backward.ensures in
     let lawful = by_lawful a.m.p a.step a.m.least a.m.odd asked.0.low in
-    record {
-      room = either_room a.m.p t lawful (order_condition c.is_backward-backward.result a.slots) _ refl a.pen asked.1.0 a.table.now
-          (omega (arith, size a.pen flipped _ _ order, c.requires.room));
-      slots = asked.1;
-    }
+    either_room a.m.p t lawful (order_condition c.is_backward-backward.result a.slots) _ refl a.pen asked.1.0 a.table.now
+    (omega (arith, size a.pen flipped _ _ order, c.requires.room))
 
 pub put_ending-requires : goal.put_ending-requires
 put_ending-requires c =

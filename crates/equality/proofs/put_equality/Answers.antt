@@ -4,15 +4,9 @@ use Rattle.writer.specs.Nodes.{node_is}
 use Rattle.equality.proofs.Joining.{digits_within, outputs_shallow, whole_length, whole_output, whole_wrote}
 use Rattle.equality.proofs.put_equality.Goals as goal
 
-pub put_equality_digits-written-requires : goal.put_equality_digits-written-requires
-put_equality_digits-written-requires c =
-    let a = c.args in
-    let within = digits_within a.modulus.p a.slots a.pen.next in
-    record {
-      room = omega (arith, within);
-      slots = omega arith;
-      one_node_each = length-take-le c.from.result _ (omega (arith, c.from.ensures)) ∙ c.from.ensures;
-    }
+pub put_equality_digits-written-requires-clause-room : goal.put_equality_digits-written-requires-clause-room
+put_equality_digits-written-requires-clause-room c =
+    let a = c.args in omega (arith, digits_within a.modulus.p a.slots a.pen.next)
 
 pub put_product_tree-requires : goal.put_product_tree-requires
 put_product_tree-requires c =

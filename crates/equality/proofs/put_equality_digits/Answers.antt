@@ -1,14 +1,8 @@
-use Rattle.std.proofs.Common.{◌≡◌, ap₂, ℕ, ◌-◌, arith}
+use Rattle.std.proofs.Common.{◌≡◌, ap₂, ℕ, arith}
 use Rattle.writer.proofs.Writing.{none}
 use Rattle.equality.proofs.Digits.{after_digit, digit_room, outputs_next, no_digits, no_outputs}
-use Rattle.writer.proofs.Remains.{remains_all, remains_as}
+use Rattle.writer.proofs.Remains.{remains_as}
 use Rattle.equality.proofs.put_equality_digits.Goals as goal
-
-pub loop-j-init : goal.loop-j-init
-loop-j-init c =
-    let n = c.args.slots.count in
-    let all : n - 0 ≡ n = omega arith in
-    (omega arith, omega arith, omega arith, rw all remains_all, rw all)
 
 pub put_equality_digit-digit-requires : goal.put_equality_digit-digit-requires
 put_equality_digit-digit-requires c =

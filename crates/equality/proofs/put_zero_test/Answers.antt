@@ -1,5 +1,4 @@
-use Rattle.std.proofs.Common.{ap, ◌∙◌, ◌-◌, arith}
-use Rattle.field.specs.Logarithm.{clog}
+use Rattle.std.proofs.Common.{◌-◌, arith}
 use Rattle.equality.proofs.Chain.{chain_size}
 use Rattle.equality.proofs.put_zero_test.Goals as goal
 
@@ -14,8 +13,10 @@ put_collected-requires c =
     let a = c.args in
     omega (arith, chain_size (a.modulus.p - 1) a.pen.next a.z (omega arith), q.ensures.remains.number)
 
-pub returns : goal.returns
-returns c =
-    let w = c.put_collected in
-    let q = c.put_squares-first in
-    let size = chain_size (c.args.modulus.p - 1) c.args.pen.next c.args.z (omega arith) in record { wrote = q.ensures.remains.gives _ _ w.ensures.wrote; moves = omega (arith, size, q.ensures.remains.number); deepens = (w.ensures.deepens.0, w.ensures.deepens.1 ∙ ap clog q.ensures.deepens) }
+pub returns-clause-wrote : goal.returns-clause-wrote
+returns-clause-wrote c = c.put_squares-first.ensures.remains.gives _ _ c.put_collected.ensures.wrote
+
+pub returns-clause-moves : goal.returns-clause-moves
+returns-clause-moves c =
+    let a = c.args in
+    omega (arith, chain_size (a.modulus.p - 1) a.pen.next a.z (omega arith), c.put_squares-first.ensures.remains.number)

@@ -1,6 +1,5 @@
-use Rattle.std.proofs.Common.{ap, ap₂, ◌∙◌, arith}
+use Rattle.std.proofs.Common.{ap₂, ◌∙◌, arith}
 use Rattle.std.proofs.lemmas.List.{length_push}
-use Rattle.card.specs.Accepted.{conditions_left}
 use Rattle.card.specs.Parts.{record_is}
 use Rattle.card.proofs.Iteration.{turn, ended}
 use Rattle.card.proofs.ReadAs.{as_many}
@@ -18,20 +17,17 @@ equality_digit-equality-requires c = let card = c.args.card in (says card.bytes.
 
 pub count_condition-own-requires : goal.count_condition-own-requires
 count_condition-own-requires c =
-    let whole = ap conditions_left c.into_iter-condition-iterator.ensures.into_iter_gives ∙ c.conditions-condition-items.ensures in
-    let this = turn c.args.card _ whole _ _ c.loop-condition.yielded_by c.in-Some.condition _ c.in-Some.ensures.steps in
+    let this = turn c.args.card c.into_iter-condition-iterator.result (cc) _ _ c.loop-condition.yielded_by c.in-Some.condition _ c.in-Some.ensures.steps in
     (this.slots.0, omega (arith, this.slots), c.order_digit-order.ensures.1, c.equality_digit-equality.ensures.1)
 
 pub next_power_of_two-requires : goal.next_power_of_two-requires
 next_power_of_two-requires c =
-    let whole = ap conditions_left c.into_iter-condition-iterator.ensures.into_iter_gives ∙ c.conditions-condition-items.ensures in
-    let this = turn c.args.card _ whole _ _ c.loop-condition.yielded_by c.in-Some.condition _ c.in-Some.ensures.steps in
+    let this = turn c.args.card c.into_iter-condition-iterator.result (cc) _ _ c.loop-condition.yielded_by c.in-Some.condition _ c.in-Some.ensures.steps in
     omega (arith, this.slots)
 
 pub loop-condition-preserved : goal.loop-condition-preserved
 loop-condition-preserved c =
-    let whole = ap conditions_left c.into_iter-condition-iterator.ensures.into_iter_gives ∙ c.conditions-condition-items.ensures in
-    let this = turn c.args.card _ whole _ _ c.loop-condition.yielded_by c.in-Some.condition _ c.in-Some.ensures.steps in
+    let this = turn c.args.card c.into_iter-condition-iterator.result (cc) _ _ c.loop-condition.yielded_by c.in-Some.condition _ c.in-Some.ensures.steps in
     let r = record_is c.in-Some.condition in
     let own = c.count_condition-own.ensures.0 ∙ ap₂ (condition_counts r.relation r.digits) c.order_digit-order.ensures.0 c.equality_digit-equality.ensures.0 in
     let next = c.next_power_of_two.ensures in
@@ -44,6 +40,5 @@ loop-condition-preserved c =
 
 pub returns : goal.returns
 returns c =
-    let whole = ap conditions_left c.into_iter-condition-iterator.ensures.into_iter_gives ∙ c.conditions-condition-items.ensures in
-    let many = ended c.args.card _ whole _ _ c.loop-condition.yielded_by c.in-None.ensures.steps.0 in
+    let many = ended c.args.card c.into_iter-condition-iterator.result (cc) _ _ c.loop-condition.yielded_by c.in-None.ensures.steps.0 in
     (finishes _ _ _ _ (omega (arith, many, as_many c.args.card.bytes.now c.args.card.head c.args.card.read)) c.loop-condition.invariant.0, omega (arith, c.loop-condition.invariant))

@@ -1,6 +1,6 @@
 -- `powers::put_low_powers` meets its contract. The invariant: the powers that are left to write give all of them.
 -- Assumes nothing.
-use Rattle.std.proofs.Common.{◌≡◌, map, ◌+◌, ◌-◌, ◌≤◌, length}
+use Rattle.std.proofs.Common.{◌≡◌, map, ◌+◌, ◌-◌, ◌≤◌}
 use Rattle.comparison.specs.OrderDigit.{ascending, power_of}
 use Rattle.writer.specs.Remains.{Remains}
 use Rattle.powers.proofs.put_low_powers.Given as goal

@@ -1,4 +1,4 @@
-use Rattle.std.proofs.Common.{◌≡◌, ap, [], ◌∷◌, List, map, ℕ, ◌+◌, ◌-◌, ◌*◌, arith}
+use Rattle.std.proofs.Common.{◌≡◌, [], ◌∷◌, ◌+◌, ◌-◌, ◌*◌, arith}
 use Rattle.field.specs.Half.{half}
 use Rattle.field.specs.Polynomials.{every_second}
 use Rattle.comparison.specs.OrderDigit.{power_of}

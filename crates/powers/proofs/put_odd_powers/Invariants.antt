@@ -1,6 +1,6 @@
 -- `powers::put_odd_powers` meets its contract. The invariant: the powers that are left to write give all of them.
 -- Assumes nothing.
-use Rattle.std.proofs.Common.{◌≡◌, map, ◌+◌, ◌/◌, ◌≤◌, length}
+use Rattle.std.proofs.Common.{◌≡◌, map, ◌+◌, ◌/◌, ◌≤◌}
 use Rattle.field.specs.Half.{half}
 use Rattle.comparison.specs.OrderDigit.{odd_exponents, power_of}
 use Rattle.writer.specs.Remains.{Remains}

@@ -1,4 +1,4 @@
-use Rattle.std.proofs.Common.{◌*◌, ◌≤◌, length, arith}
+use Rattle.std.proofs.Common.{ℕ, ◌+◌, ◌-◌, ◌*◌, ◌≤◌, length, arith}
 use Rattle.step.specs.Digit.{step_gates}
 use Rattle.step.proofs.Digit.{less_few}
 use Rattle.rating.proofs.count_less.Goals as goal
@@ -6,13 +6,18 @@ use Rattle.rating.proofs.count_less.Goals as goal
 pub put_step_less-written-requires : goal.put_step_less-written-requires
 put_step_less-written-requires c =
     let m = c.args.m in
-    let few : length (step_gates m.p c.args.step 0) ≤ 11 * m.p = less_few m.p c.args.step m.least m.odd c.requires.0.0 c.requires.0.1 0 in
     let start = c.second_gate.ensures in
-    ?
+    let few : length (step_gates m.p c.args.step (c.second_gate.result.next - 1)) ≤ 11 * m.p = less_few m.p c.args.step m.least m.odd c.requires.0.0 c.requires.0.1 _ in
+    record {
+      provided = record { room = omega (arith, few, start, m.byte); prepared = c.requires.1 };
+      le_next = (omega (arith, start), c.requires.0);
+    }
 
 pub returns : goal.returns
 returns c =
     let m = c.args.m in
-    let few : length (step_gates m.p c.args.step 0) ≤ 11 * m.p = less_few m.p c.args.step m.least m.odd c.requires.0.0 c.requires.0.1 0 in
-    let moved = c.put_step_less-written.ensures.moves.0 in
-    ?
+    let start = c.second_gate.ensures in
+    let few : length (step_gates m.p c.args.step (c.second_gate.result.next - 1)) ≤ 11 * m.p = less_few m.p c.args.step m.least m.odd c.requires.0.0 c.requires.0.1 _ in
+    let moved = rw start.0 at c.put_step_less-written.ensures.moves.0 in
+    let short : length (step_gates m.p c.args.step 0) ≤ 11 * m.p = rw start.0 at few in
+    (omega (arith, moved), omega (arith, moved, short))

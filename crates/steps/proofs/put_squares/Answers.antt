@@ -1,7 +1,6 @@
-use Rattle.std.proofs.Common.{[], ◌∷◌, ◌+◌, ◌-◌, arith, ◌≡◌, ap}
+use Rattle.std.proofs.Common.{[], ◌∷◌, ◌+◌, ◌-◌, arith}
 use Rattle.circuit.specs.Gate.{Mul}
-use Rattle.step.specs.Powers.{squares_from}
-use Rattle.writer.proofs.Remains.{remains_all, remains_as, remains_then}
+use Rattle.writer.proofs.Remains.{remains_as, remains_then}
 use Rattle.writer.proofs.Writing.{none}
 use Rattle.steps.proofs.Squares.{squares_cons, squares_none}
 use Rattle.steps.proofs.put_squares.Goals as goal

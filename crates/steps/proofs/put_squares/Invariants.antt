@@ -1,6 +1,6 @@
 -- `steps::put_squares` meets its contract. The invariant: the squares that are left to write give all of them.
 -- Assumes nothing.
-use Rattle.std.proofs.Common.{◌≡◌, ◌+◌, ◌-◌, ◌≤◌, length}
+use Rattle.std.proofs.Common.{◌≡◌, ◌+◌, ◌-◌, ◌≤◌}
 use Rattle.step.specs.Powers.{squares_from}
 use Rattle.writer.specs.Remains.{Remains}
 use Rattle.steps.proofs.put_squares.Given as goal

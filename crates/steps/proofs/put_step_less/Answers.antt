@@ -1,4 +1,4 @@
-use Rattle.std.proofs.Common.{ap, ◌∙◌, ◌+◌, ◌-◌, arith}
+use Rattle.std.proofs.Common.{ap, ◌∙◌, ◌-◌, arith}
 use Rattle.circuit.specs.Segment.{Node}
 use Rattle.step.specs.Pieces.{Piece}
 use Rattle.step.proofs.Digit.{step_sum_lem}

@@ -1,6 +1,4 @@
-use Rattle.std.proofs.Common.{◌<◌, get_or}
 use Rattle.tree.proofs.Factors.{depth_at, next_least, same_least}
-use Rattle.tree.specs.Factors.{depths}
 use Rattle.tree.proofs.first_least.Goals.{then-nodes-i, else-nodes-i}
 use Rattle.tree.proofs.first_least.Goals as goal
 

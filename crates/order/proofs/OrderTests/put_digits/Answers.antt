@@ -1,23 +1,22 @@
-use Rattle.std.proofs.Common.{◌≡◌, ap, ◌∙◌, ◌+◌, ◌-◌, ◌<◌, arith}
-use Rattle.digits.specs.Number.{most_digits}
+use Rattle.std.proofs.Common.{◌≡◌, ap, ◌∙◌, ◌-◌, arith}
 use Rattle.comparison.specs.Digits.{digits_from, order_digit, order_start}
 use Rattle.comparison.specs.Tests.{less_node, equal_node}
 use Rattle.comparison.proofs.Digits.{digits_cons}
 use Rattle.step.specs.Digit.{tests_by}
 use Rattle.step.proofs.Promises.{by_lawful}
-use Rattle.writer.proofs.Remains.{remains_all, remains_as, remains_then}
+use Rattle.writer.proofs.Remains.{remains_as, remains_then}
 use Rattle.writer.proofs.Writing.{none, same_gates}
 use Rattle.order.specs.Slots.{order_condition}
-use Rattle.order.proofs.Digits.{digit_room, digit_next, listed_none, listed_next}
+use Rattle.order.proofs.Digits.{digit_room, digit_next, listed_next}
 use Rattle.order.proofs.OrderTests.put_digits.Goals as goal
 
-pub put_digit-digit-requires : goal.put_digit-digit-requires
-put_digit-digit-requires c =
+pub put_digit-digit-requires-clause-room : goal.put_digit-digit-requires-clause-room
+put_digit-digit-requires-clause-room c =
     let a = c.args in
     let l = c.loop-j in
     let room = digit_room (tests_by a.self.m.p a.self.step) (order_condition a.backward a.slots) a.pen.next a.slots.count l.j l.last.next
     c.loop-j-test.true l.invariant.0 l.invariant.3.number in
-    record { room = omega (arith, room, l.invariant, c.requires.room); slots = omega (arith, c.requires.slots, c.loop-j-test.true) }
+    omega (arith, room, l.invariant, c.requires.room)
 
 pub loop-j-preserved : goal.loop-j-preserved
 loop-j-preserved c =

@@ -7,15 +7,10 @@ use Rattle.order.specs.Slots.{order_condition}
 use Rattle.order.proofs.Whole.{digits_within, segment_is, listed_joinable}
 use Rattle.order.proofs.OrderTests.put_order.Goals as goal
 
-pub put_digits-last-requires : goal.put_digits-last-requires
-put_digits-last-requires c =
+pub put_digits-last-requires-clause-room : goal.put_digits-last-requires-clause-room
+put_digits-last-requires-clause-room c =
     let a = c.args in
-    let part = digits_within (tests_by a.self.m.p a.self.step) (order_condition a.backward a.slots) a.pen.next in
-    record {
-      room = omega (arith, part, c.requires.room);
-      slots = c.requires.slots;
-      one_each = length-take-le c.from.result _ (omega (arith, c.from.ensures, c.requires.slots)) ∙ c.from.ensures;
-    }
+    omega (arith, digits_within (tests_by a.self.m.p a.self.step) (order_condition a.backward a.slots) a.pen.next, c.requires.room)
 
 pub join_digits-requires : goal.join_digits-requires
 join_digits-requires c =

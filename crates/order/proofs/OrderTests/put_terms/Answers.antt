@@ -1,4 +1,4 @@
-use Rattle.std.proofs.Common.{◌≡◌, refl, sym, ap, ap₂, ◌∙◌, inl, inr, List, [], ◌∷◌, ℕ, ◌+◌, ◌-◌, ◌*◌, ◌≤◌, ◌<◌, get_or, arith}
+use Rattle.std.proofs.Common.{◌≡◌, refl, sym, ap, ap₂, ◌∙◌, inl, inr, List, [], ◌∷◌, ℕ, ◌+◌, ◌-◌, ◌*◌, get_or, arith}
 use Rattle.field.specs.Polynomials.{order_constant}
 use Rattle.circuit.specs.Constant.{Constant, code, signed}
 use Rattle.circuit.specs.Gate.{Gate, Scale, Add}
@@ -7,9 +7,7 @@ use Rattle.comparison.proofs.Powers.{gate_low}
 use Rattle.writer.specs.declared.Written.{Written}
 use Rattle.writer.proofs.Remains.{remains_all, remains_as, remains_then}
 use Rattle.writer.proofs.Writing.{same_gates, then}
-use Rattle.powers.proofs.Constants.{constants_long}
 use Rattle.powers.proofs.Modulus.{is_modulus}
-use Rattle.powers.proofs.Powers.{place_within}
 use Rattle.order.proofs.Terms.{terms_from, constant_odd, constant_top, terms_first, later_cons, later_top, deeper_power}
 use Rattle.order.proofs.OrderTests.put_terms.Goals as goal
 
@@ -24,11 +22,6 @@ loop-i-init c =
     let one : power_gate p 0 1 ≡ 0 = gate_low p 0 1 (omega arith) ∙ omega arith in
     let flat = rw one at (s.prepared.deep.known 1 (omega arith, omega arith, inl (omega arith)) (omega arith)) in
     (omega arith, omega arith, omega arith, omega arith, flat, remains_all)
-
-pub power_at-power-requires : goal.power_at-power-requires
-power_at-power-requires c =
-    let p = c.args.self.m.p in
-    omega (arith, c, c.args.self.prepared.long, place_within p (2 * c.loop-i.i + 1) (omega (arith, c)))
 
 pub loop-i-preserved : goal.loop-i-preserved
 loop-i-preserved c =
@@ -56,11 +49,6 @@ loop-i-preserved c =
       rw back (w.deepens.1 ∙ deep),
       remains_as onward (remains_then (remains_as split inv.5) (same_gates term w.wrote)),
     )
-
-pub power_at-top-requires : goal.power_at-top-requires
-power_at-top-requires c =
-    let p = c.args.self.m.p in
-    omega (arith, c, c.args.self.prepared.long, place_within p (p - 1) (omega arith))
 
 pub returns : goal.returns
 returns c =

@@ -4,15 +4,9 @@ use Rattle.writer.proofs.Remains.{remains_as}
 use Rattle.writer.proofs.Writing.{none as nothing}
 use Rattle.step.specs.Pieces.{Piece, terms_from}
 use Rattle.pieces.specs.Sums.{sum_is}
-use Rattle.pieces.proofs.Sums.{power_place, power_read}
+use Rattle.pieces.proofs.Sums.{power_read}
 use Rattle.pieces.proofs.Terms.{next_room, next_written, rest_none}
 use Rattle.pieces.proofs.Polynomial.put_terms.Goals as goal
-
-pub power_at-power-requires : goal.power_at-power-requires
-power_at-power-requires c =
-    let s = c.args.self in
-    let e = c.loop-e.e in
-    omega (arith, s.is_step, s.m, s.low, s.prepared.long, power_place s.m.p e (omega arith) (omega (arith, s.is_step)))
 
 pub next_term-last-requires : goal.next_term-last-requires
 next_term-last-requires c =

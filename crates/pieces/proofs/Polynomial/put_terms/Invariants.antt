@@ -1,6 +1,6 @@
 -- `Polynomial::put_terms` meets its contract. The invariant: the terms that are left to write give all of them.
 -- Assumes nothing.
-use Rattle.std.proofs.Common.{◌≡◌, ◌≤◌, length}
+use Rattle.std.proofs.Common.{◌≡◌, ◌≤◌}
 use Rattle.step.specs.Coefficient.{coefficient}
 use Rattle.step.specs.Pieces.{none, terms_from}
 use Rattle.writer.specs.Remains.{Remains}

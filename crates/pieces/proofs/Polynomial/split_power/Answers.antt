@@ -1,13 +1,8 @@
 use Rattle.std.proofs.Common.{ap, ℕ, ◌+◌, arith}
 use Rattle.field.proofs.Logarithm.{clog_is_ceiling}
 use Rattle.circuit.proofs.Segment.{node_same}
-use Rattle.pieces.proofs.Sums.{power_place, power_read}
+use Rattle.pieces.proofs.Sums.{power_read}
 use Rattle.pieces.proofs.Polynomial.split_power.Goals as goal
-
-pub power_at-first-requires : goal.power_at-first-requires
-power_at-first-requires c =
-    let s = c.args.self in
-    omega (arith, s.is_step, s.m, s.low, s.prepared.long, power_place s.m.p s.step s.is_step.0 s.is_step.1)
 
 pub overflow_add-result : goal.overflow_add-result
 overflow_add-result c =

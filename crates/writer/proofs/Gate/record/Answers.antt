@@ -1,7 +1,6 @@
 use Rattle.std.proofs.Common.{sym, ap, ◌∙◌, arith}
 use Rattle.circuit.specs.Gate.{row, record_bytes}
 use Rattle.circuit.proofs.Constant.{twos_complement}
-use Rattle.writer.specs.Gates.{gate_is}
 use Rattle.writer.proofs.Gate.record.Goals as goal
 
 pub returns-in-Scale : goal.returns-in-Scale
