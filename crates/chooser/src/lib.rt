@@ -33,7 +33,7 @@ pub struct Rated {
 fn precedes(new: Report, old: Report) -> bool
     ensures { result ≡ (ltb new.cost.0 old.cost.0 || (eqb new.cost.0 old.cost.0 && ltb new.depth.0 old.depth.0)) }
 {
-    (new.cost, new.depth) < (old.cost, old.depth)
+    (new.cost.0, new.depth.0) < (old.cost.0, old.depth.0)
 }
 
 // The better of a step size and the best so far, which is lower.
