@@ -1,5 +1,5 @@
 -- Laws that the proofs of the functions share.
-pub mod Conditions
+pub mod Records
 pub mod Summary
 pub mod ReadAs
 pub mod Iteration

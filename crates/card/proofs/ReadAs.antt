@@ -26,7 +26,7 @@ use Rattle.card.specs.declared.CardHead.{CardHead}
 use Rattle.card.specs.declared.Record.{Record}
 use Rattle.card.specs.Parts.{form_is, record_is, records_from, weight_in, left_in, Summary, summary, head_is}
 use Rattle.card.specs.Conditions.{ReadAs, conditions_of, Taken, IsRecord, IsWeight}
-use Rattle.card.proofs.Conditions.{record_within}
+use Rattle.card.proofs.Records.{record_within}
 
 -- what is known of a card that was read
 pub record Known (bytes : List ℕ) (head : CardHead) : Type 0 where

@@ -3,7 +3,7 @@
 -- Assumes nothing.
 use Rattle.std.proofs.Common.{◌≡◌, sym, List, ℕ, ◌-◌, arith, length, take, drop, length-drop, take_all}
 use Rattle.answer.specs.Outcome.{Answer, refused, accepted, on_answer}
-use Rattle.answer.proofs.Outcome.{on_answer_rule, answered, accepted_same, was_refused}
+use Rattle.answer.proofs.Outcome.{on_answer_rule, answered, accepted_same}
 use Rattle.comparison.specs.Condition.{Condition}
 use Rattle.query.specs.Form.{head_size, Form}
 use Rattle.query.specs.Reading.{read_conditions, within_limits, read_limits}
@@ -21,9 +21,6 @@ pub records_lent : (bytes : List ℕ) → take (length bytes - head_size) (drop 
 records_lent bytes = take_all (length bytes - head_size) (drop head_size bytes) (rw length-drop (omega arith))
 
 module _ (form : Form) (p s count : ℕ) (records : List ℕ) where
-  pub told_refused : (number : ℕ) → refused number ≡ read_sums form p count records → refused number ≡ telling form p s count records
-  told_refused number e = rw (was_refused number (read_conditions form p 0 count records) sums_of e)
-
   -- what is said with such sums
   abbrev said : Sums → Summary
   said sums = record { form = form; prime = p; weight = s; count = count; slots = sums.slots; left = sums.left }

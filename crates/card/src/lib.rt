@@ -18,7 +18,7 @@ use relations::Relation;
 
 mod accepted;
 
-pub use accepted::Card;
+pub use accepted::{Card, Conditions};
 
 // For each form the marks of a head and of a record, and the bytes of a record.
 pub const PLAIN_HEAD: [u8; 2] = [0xC5, 0x48];

@@ -3,20 +3,18 @@
 -- Assumes nothing.
 use Rattle.std.specs.Int.RustNames.{count_ones}
 use Rattle.std.specs.Int.{IsNextPowerOfTwo}
-use Rattle.std.proofs.Common.{◌≡◌, refl, sym, ap, ◌∙◌, Bool, true, false, ℕ, zero, suc, ◌+◌, ◌*◌, ◌/◌, ◌%◌, ◌^◌, ◌≤◌, ◌<◌, max, arith, add-zero, mul-le-mul_left}
+use Rattle.std.proofs.Common.{◌≡◌, refl, sym, ap, ◌∙◌, Bool, true, false, ℕ, zero, suc, ◌+◌, ◌/◌, ◌%◌, ◌^◌, ◌≤◌, ◌<◌, max, arith}
 use Rattle.std.proofs.lemmas.Nat.{pow_pos}
 use lib.Arith.{bin_ind}
 use lib.Count.{ones_step}
 use Rattle.field.specs.Logarithm.{clog}
 use Rattle.field.proofs.Logarithm.{clog_small, clog_between}
-use Rattle.digits.specs.Number.{most_digits}
 use Rattle.comparison.specs.Bits.{bits, set_bits, ones}
 use Rattle.comparison.specs.Condition.{Condition}
 use Rattle.comparison.specs.Formulas.{condition_size, condition_products, condition_squares}
-use Rattle.comparison.specs.Relation.{Relation, is_order, is_flipped}
+use Rattle.comparison.specs.Relation.{is_order}
 use Rattle.comparison.proofs.Bits.{bits_cons, worth, bits_worth}
-use Rattle.forecast.specs.Counting.{most_in_digit, Within, digit_counts, ended_counts, of_sort, condition_counts}
-use Rattle.forecast.specs.declared.Counts.{Counts}
+use Rattle.forecast.specs.Counting.{digit_counts, of_sort, condition_counts}
 
 -- ---- set bits
 
@@ -55,10 +53,6 @@ power_is n power next =
 
 -- ---- the counts of a condition
 
--- no FLIP, no gate more
-pub unflipped : (r : Relation) (joined : Counts) → is_flipped r ≡ false → joined ≡ ended_counts r joined
-unflipped r joined e = rw (e, add-zero joined.gates)
-
 -- those of both sorts, and the one that is picked
 of_sort_lem : (order : Bool) (p : ℕ) → of_sort order (digit_counts true p) (digit_counts false p) ≡ digit_counts order p
 of_sort_lem true p = refl
@@ -69,14 +63,3 @@ pub condition_is : (p : ℕ) (c : Condition)
     → condition_counts c.relation c.digits (digit_counts true p) (digit_counts false p)
     ≡ record { gates = condition_size p c; products = condition_products p c; squares = condition_squares p c }
 condition_is p c = rw (of_sort_lem (is_order c.relation) p)
-
--- ---- how large the numbers can be
-
--- n digits' share of each count
-pub digits_share : (n : ℕ) (digit : Counts) → n ≤ most_digits → Within most_in_digit digit
-    → (n * digit.gates ≤ 7200) × (n * digit.products ≤ 7200) × (n * digit.squares ≤ 7200)
-digits_share n digit few small =
-    (share digit.gates small.0, share digit.products small.1, share digit.squares small.2)
-  where
-    share : (x : ℕ) → x ≤ most_in_digit → n * x ≤ 7200
-    share x h = omega (arith, mul-le-mul_left n h)

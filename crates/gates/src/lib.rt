@@ -34,7 +34,7 @@ fn is_constant(b: usize, prime: u8) -> bool
 
 // Where a gate comes: under the head of its table, whose prime is odd, and after the gates whose depths are given, none of which is
 // deeper than its number.
-#[derive(Clone, Copy)]
+#[derive(Clone, Copy, Debug, PartialEq, Eq)]
 pub struct Place<'a> {
     pub head: TableHead,
     pub earlier: &'a [u16],

@@ -32,7 +32,7 @@ pub struct Outline {
 }
 
 // A table that was read: the bytes that begin with it, and its outline.
-#[derive(Clone, Copy)]
+#[derive(Clone, Copy, Debug, PartialEq, Eq)]
 pub struct Table<'a> {
     pub bytes: &'a [u8],
     pub outline: Outline,

@@ -1,6 +1,6 @@
 use Rattle.std.proofs.Common.{rules, arith}
 use Rattle.card.specs.Parts.{record_is}
-use Rattle.card.proofs.Conditions.{finishes, refuses, left_few, adds}
+use Rattle.card.proofs.Records.{finishes, refuses, left_few, adds}
 use Rattle.card.proofs.read_conditions.Goals as goal
 
 pub returns-in_err-condition : goal.returns-in_err-condition

@@ -2,7 +2,7 @@
 -- with those over the records that are left to read, give the whole answer.
 -- Assumes nothing.
 use Rattle.card.specs.Parts.{form_is, read_sums}
-use Rattle.card.proofs.Conditions.{AddsUp}
+use Rattle.card.proofs.Records.{AddsUp}
 use Rattle.card.proofs.read_conditions.Given as goal
 
 abbrev pub invariant-loop-k : goal.invariant-loop-k
