@@ -1,11 +1,7 @@
 -- What Build answers and leaves is what a listing says, where there is room for every table: a report is that of the card's table,
 -- whose records stand in the lent bytes, and a refusal is the card's.
 -- Assumes nothing.
-use mathlib.Core.Path.{◌≡◌, refl, sym, ap, ◌∙◌}
-use mathlib.Core.List.{List, ◌++◌}
-use Prim.Native.Nat.{ℕ, ◌+◌, ◌*◌, ◌≤◌}
-use native.Mathlib.Omega.{arith}
-use lib.ListN.{length, drop, length-append}
+use Rattle.std.proofs.Common.{◌≡◌, refl, sym, ap, ◌∙◌, List, ◌++◌, ℕ, ◌+◌, ◌*◌, ◌≤◌, arith, length, drop, length-append}
 use Rattle.answer.specs.Outcome.{Answer, refused, accepted, Outcome}
 use Rattle.answer.specs.Report.{Report}
 use Rattle.answer.proofs.Outcome.{refused≢accepted, accepted_same}

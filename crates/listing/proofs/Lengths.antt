@@ -1,11 +1,6 @@
 -- How long a listing is at most: numbers of a gate line have four digits, as a table has at most 8191 gates, or a sign and three; a refusal's number has two.
 -- Assumes nothing.
-use mathlib.Core.Path.{◌≡◌, refl}
-use mathlib.Core.Bool.{true}
-use mathlib.Core.List.{List, [], ◌∷◌, ◌++◌}
-use Prim.Native.Nat.{ℕ, suc, ◌+◌, ◌*◌, ◌≤◌, ◌<◌}
-use native.Mathlib.Omega.{arith}
-use lib.ListN.{length, length-append}
+use Rattle.std.proofs.Common.{◌≡◌, refl, true, List, [], ◌∷◌, ◌++◌, ℕ, suc, ◌+◌, ◌*◌, ◌≤◌, ◌<◌, arith, length, length-append}
 use Rattle.answer.specs.Outcome.{Answer, refused, accepted}
 use Rattle.answer.specs.Report.{Report}
 use Rattle.field.proofs.Primes.{listed_is_odd_prime}

@@ -1,7 +1,6 @@
 -- A listing says what Forecast answers: both go by the two cases of reading the card.
 -- Assumes nothing.
-use mathlib.Core.Path.{◌≡◌, sym, ap}
-use mathlib.Core.List.{◌++◌}
+use Rattle.std.proofs.Common.{◌≡◌, sym, ap, ◌++◌}
 use Rattle.answer.specs.Report.{Report}
 use Rattle.answer.proofs.Outcome.{accepted_same, was_refused}
 use Rattle.circuit.specs.Report.{report}

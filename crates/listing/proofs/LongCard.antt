@@ -1,16 +1,7 @@
 -- Input longer than any card is refused as its first bytes are: no rule before the seventh looks past the head,
 -- and whatever count the head has, neither length is a card's.
 -- Assumes nothing.
-use mathlib.Core.Path.{◌≡◌, refl, ap}
-use mathlib.Core.Bool.{Bool, true, false, not}
-use mathlib.Core.List.{List}
-use Prim.Native.Nat.{ℕ, ◌+◌, ◌*◌, ◌≤◌, ◌<◌}
-use native.Mathlib.Omega.{arith}
-use native.Mathlib.Nat.{mul-le-mul}
-use borrow.Author.Tests.{le-ltb, ne_eqb}
-use lib.Dec.{eqb}
-use lib.ListN.{length, take}
-use lib.Seq.{length-take-le, get_or-take}
+use Rattle.std.proofs.Common.{◌≡◌, refl, ap, Bool, true, false, not, List, ℕ, ◌+◌, ◌*◌, ◌≤◌, ◌<◌, arith, mul-le-mul, le-ltb, ne_eqb, eqb, length, take, length-take-le, get_or-take}
 use Rattle.answer.specs.Outcome.{Answer, refused, accepted, refuse}
 use Rattle.answer.proofs.Outcome.{on_answer_same}
 use Rattle.field.specs.Primes.{listed}

@@ -34,10 +34,8 @@ fn list_read(
     ensures listed { take result text.new ≡ listing (take count input.now) }
     ensures counts { IsPrefixLen result text.new }
 {
-    if input.len() < count {
-        return listing::list_card(input, table, text);
-    }
-    listing::list_card(&input[..count], table, text)
+    let read = count.min(input.len());
+    listing::list_card(&input[..read], table, text)
 }
 
 fn main() {

@@ -17,12 +17,9 @@ ghost use Rattle.told.specs.Told.{is_accepted, number_after, told_of, which_afte
 
 use answer::Depth;
 use builder::build;
-use coding::Decoded;
 use forecast::forecast;
-use liveness::Listed;
 use packing::finish;
-use runner::Ran;
-use told::{put_offered, put_report};
+use told::{put_offered, put_report, put_value};
 
 // Encode: writes number as n digits at the start of out.
 #[unsafe(no_mangle)]
@@ -41,13 +38,7 @@ pub extern "C" fn staplethread_decode(p: u8, digits: &[u8], number: &mut u64) ->
     ensures success { eqb result 0 ≡ is_accepted (decoding p digits.now) }
     ensures told { number.new ≡ number_after number.old (decoding p digits.now) }
 {
-    match coding::decode(p, digits) {
-        Decoded::Number(sum) => {
-            *number = sum;
-            0
-        }
-        Decoded::Refused(why) => answer::refusal_number(why),
-    }
+    put_value(coding::decode(p, digits), number)
 }
 
 // Check: the report on a table.
@@ -95,13 +86,7 @@ pub extern "C" fn staplethread_run(
     ensures leaves { work.new ≡ (running table.now left.now right.now work.old).lent }
     ensures told { output.new ≡ number_after output.old (running table.now left.now right.now work.old).answer }
 {
-    match runner::run(table, left, right, work) {
-        Ran::Output(value) => {
-            *output = value;
-            0
-        }
-        Ran::Refused(why) => answer::refusal_number(why),
-    }
+    put_value(runner::run(table, left, right, work), output)
 }
 
 // The last-use list: for each gate the number of the last gate that reads it, at the start of the
@@ -113,13 +98,7 @@ pub extern "C" fn staplethread_last_uses(table: &[u8], list: &mut [u16], gates: 
     ensures leaves { list.new ≡ (finding_last_uses table.now list.old).lent }
     ensures told { gates.new ≡ number_after gates.old (finding_last_uses table.now list.old).answer }
 {
-    match liveness::last_uses(table, list) {
-        Listed::Gates(count) => {
-            *gates = count;
-            0
-        }
-        Listed::Refused(why) => answer::refusal_number(why),
-    }
+    put_value(liveness::last_uses(table, list), gates)
 }
 
 // Forecast: the report on the table of a card, from the card only.

@@ -1,11 +1,10 @@
 -- Laws of putting: texts that are put one after the other are their concatenation, put whole; and room for the whole is room for each part.
 -- Assumes nothing.
-use mathlib.Core.Path.{◌≡◌, refl, sym, ap, ap₂, subst, ◌∙◌}
-use mathlib.Core.List.{List, [], ◌∷◌, ◌++◌}
-use Prim.Native.Nat.{ℕ, ◌+◌}
-use native.Mathlib.Omega.{arith}
-use lib.ListN.{length, length-append, set}
-use lib.Seq.{sets, length-sets}
+use Rattle.std.proofs.Common.{List, [], ◌∷◌, ◌++◌, ℕ, ◌+◌, ◌-◌, ◌≡◌, refl, sym, ap, ap₂, subst, ◌∙◌, append_assoc, arith, length, length-append, take, drop}
+use Rattle.std.proofs.lemmas.List.Edits.{sets, sets-eq}
+use borrow.Rule.Slice.PartMut.{put_mid, Post-is}
+use lib.ListN.{set}
+use lib.Seq.{length-sets}
 use Rattle.answer.proofs.Lent.{sets_append}
 use Rattle.text.specs.Putting.{Puts, Fits}
 
@@ -15,6 +14,18 @@ nothing = record { bytes = refl; after = omega arith }
 -- one byte
 pub one : {out : List ℕ} {place b : ℕ} → Puts out place (b ∷ []) (set out place b) (place + 1)
 one = record { bytes = refl; after = refl }
+
+-- what a copy to a part of the bytes leaves is the text, put whole
+pub copied : (out text : List ℕ) (place : ℕ) {part : List ℕ} → part ≡ text → Fits out place text
+    → Puts out place text (put_mid place (place + length text - place) out part) (place + length text)
+copied out text place same room =
+    let end = place + length text in record {
+      bytes = ap (λ (part : List ℕ). put_mid place (end - place) out part) same
+          ∙ ap (λ (rest : List ℕ). take place out ++ (text ++ rest)) (Post-is place end out (omega arith))
+          ∙ sym (append_assoc (take place out) text (drop end out))
+          ∙ sym (sets-eq text out place room);
+      after = refl;
+    }
 
 -- the same text, said in another way
 pub same_text : {out out' : List ℕ} {place end : ℕ} {xs ys : List ℕ} → xs ≡ ys → Puts out place xs out' end → Puts out place ys out' end

@@ -10,9 +10,9 @@ abbrev pub is_accepted : {A : Type 0} → Answer A → Bool
 is_accepted (refused number) = false
 is_accepted (accepted a) = true
 
--- ---- what a lent number holds afterwards: a value of what was answered, or, on a refusal, what it held
+-- ---- what a lent value, such as a number, holds afterwards: a value of what was answered, or, on a refusal, what it held
 
-abbrev pub after : {A : Type 0} → (A → ℕ) → ℕ → Answer A → ℕ
+abbrev pub after : {A V : Type 0} → (A → V) → V → Answer A → V
 after value held (refused number) = held
 after value held (accepted a) = value a
 

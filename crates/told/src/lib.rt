@@ -1,30 +1,45 @@
-// What an operation answers, told as a number, and a report, and which of two tables it is of, told through lent numbers.
+// What an operation answers, told as a number, and a value, a report, and which of two tables it is of, told through what is lent.
 #![tactic(auto)]
 
 ghost use Rattle.std.specs.Prelude.{◌≡◌, ◌+◌, ◌*◌, eqb};
 ghost use Rattle.answer.specs.Outcome.{refusal_in};
 ghost use Rattle.answer.specs.Report.{report_answer};
-ghost use Rattle.answer.specs.Settled.{settled_answer};
+ghost use Rattle.answer.specs.Settled.{answer_of, settled_answer};
 ghost use Rattle.within.specs.Handed.{handed_answer};
-ghost use Rattle.told.specs.Told.{is_accepted, told_of, which_after, length_after, gates_after, products_after, squares_after, cost_after, depth_after};
+ghost use Rattle.told.specs.Told.{is_accepted, after, told_of, which_after, length_after, gates_after, products_after, squares_after, cost_after, depth_after};
 
-use answer::{Report, Reported, Settled};
+use answer::{Refusal, Report};
 use within::Offered;
 
 // 0 for an operation that is done, or the number of the refusal.
-pub fn number_of(answer: Settled) -> u8
+pub fn number_of(answer: Result<(), Refusal>) -> u8
     ensures status { result ≡ refusal_in (settled_answer answer) }
     ensures success { eqb result 0 ≡ is_accepted (settled_answer answer) }
 {
     match answer {
-        Settled::Done => 0,
-        Settled::Refused(why) => answer::refusal_number(why),
+        Ok(()) => 0,
+        Err(why) => u8::from(why),
+    }
+}
+
+// Tells the value, or only the number of the refusal.
+pub fn put_value<T: Copy>(found: Result<T, Refusal>, value: &mut T) -> u8
+    ensures status { result ≡ refusal_in (answer_of (λ told. told) found) }
+    ensures success { eqb result 0 ≡ is_accepted (answer_of (λ told. told) found) }
+    ensures told { value.new ≡ after (λ told. told) value.old (answer_of (λ told. told) found) }
+{
+    match found {
+        Ok(told) => {
+            *value = told;
+            0
+        }
+        Err(why) => u8::from(why),
     }
 }
 
 // Tells the report, or only the number of the refusal.
 pub fn put_report(
-    told: Reported,
+    told: Result<Report, Refusal>,
     gates: &mut u16,
     products: &mut u16,
     squares: &mut u16,
@@ -40,7 +55,7 @@ pub fn put_report(
     ensures depth { depth.new ≡ depth_after depth.old (report_answer told) }
 {
     match told {
-        Reported::Success(report) => {
+        Ok(report) => {
             *gates = report.gates;
             *products = report.products;
             *squares = report.squares;
@@ -48,46 +63,13 @@ pub fn put_report(
             *depth = report.depth.0;
             0
         }
-        Reported::Refused(why) => answer::refusal_number(why),
+        Err(why) => u8::from(why),
     }
-}
-
-// Tells which table a part is handed back of, how long the part is, and the report on it.
-fn put_part(
-    number: u8,
-    told: Report,
-    which: &mut u8,
-    part_length: &mut usize,
-    gates: &mut u16,
-    products: &mut u16,
-    squares: &mut u16,
-    cost: &mut u32,
-    depth: &mut u16,
-) -> u8
-    ensures status { result ≡ 0 }
-    ensures which { which.new ≡ number }
-    ensures part { part_length.new ≡ 8 * (told.gates + 1) }
-    ensures gates { gates.new ≡ told.gates }
-    ensures products { products.new ≡ told.products }
-    ensures squares { squares.new ≡ told.squares }
-    ensures cost { cost.new ≡ told.cost.0 }
-    ensures depth { depth.new ≡ told.depth.0 }
-{
-    *which = number;
-    *part_length = 8 * (told.gates as usize + 1);
-    put_report(
-        Reported::Success(told),
-        gates,
-        products,
-        squares,
-        cost,
-        depth,
-    )
 }
 
 // Tells what is handed back of two tables, or only the number of the refusal.
 pub fn put_offered(
-    offered: Offered,
+    offered: Result<Offered, Refusal>,
     which: &mut u8,
     part_length: &mut usize,
     gates: &mut u16,
@@ -106,29 +88,12 @@ pub fn put_offered(
     ensures cost { cost.new ≡ cost_after cost.old (told_of (handed_answer offered)) }
     ensures depth { depth.new ≡ depth_after depth.old (told_of (handed_answer offered)) }
 {
-    match offered {
-        Offered::First(told) => put_part(
-            1,
-            told,
-            which,
-            part_length,
-            gates,
-            products,
-            squares,
-            cost,
-            depth,
-        ),
-        Offered::Second(told) => put_part(
-            2,
-            told,
-            which,
-            part_length,
-            gates,
-            products,
-            squares,
-            cost,
-            depth,
-        ),
-        Offered::Refused(why) => answer::refusal_number(why),
-    }
+    let (number, told) = match offered {
+        Ok(Offered::First(told)) => (1, told),
+        Ok(Offered::Second(told)) => (2, told),
+        Err(why) => return u8::from(why),
+    };
+    *which = number;
+    *part_length = 8 * (usize::from(told.gates) + 1);
+    put_report(Ok(told), gates, products, squares, cost, depth)
 }

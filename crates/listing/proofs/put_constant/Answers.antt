@@ -1,5 +1,5 @@
-use mathlib.Core.Path.{◌≡◌, sym, ap, subst}
-use Prim.Native.Nat.{◌-◌}
+-- A constant's sixteen bits below 0x8000 are its digits' number, and from there on what lacks to 0x10000, with a minus.
+use Rattle.std.proofs.Common.{◌≡◌, ℕ, ◌-◌, ◌<◌, ◌≤◌, sym, ap, subst}
 use Rattle.circuit.specs.Constant.{plus, minus, signed}
 use Rattle.circuit.proofs.Constant.{signed_plus, signed_minus}
 use Rattle.text.specs.Putting.{Fits}
@@ -7,22 +7,20 @@ use Rattle.text.proofs.Putting.{same_text}
 use Rattle.listing.specs.Lines.{constant_text}
 use Rattle.listing.proofs.put_constant.Goals as goal
 
+up : (b : ℕ) → b < 0x8000 → constant_text (signed b) ≡ constant_text (plus b)
+up b h = ap constant_text (signed_plus b h)
+
+down : (b : ℕ) → 0x8000 ≤ b → constant_text (signed b) ≡ constant_text (minus (0x10000 - b))
+down b h = ap constant_text (signed_minus b h)
+
 pub put_labelled-requires : goal.put_labelled-requires
-put_labelled-requires c =
-    let up : (let b = c.args.b in constant_text (signed b) ≡ constant_text (plus b)) = ap constant_text (signed_plus c.args.b c.if-b-lt32768.true) in
-    subst (Fits c.args.out.now c.args.at) (up) c.requires.1
+put_labelled-requires c = let a = c.args in subst (Fits a.out.now a.at) (up a.b c.if-b-lt32768.true) c.requires.1
 
 pub returns-then-b-lt32768 : goal.returns-then-b-lt32768
-returns-then-b-lt32768 c =
-    let up : (let b = c.args.b in constant_text (signed b) ≡ constant_text (plus b)) = ap constant_text (signed_plus c.args.b c.if-b-lt32768.true) in
-    same_text (sym (up)) c.put_labelled.ensures
+returns-then-b-lt32768 c = same_text (sym (up c.args.b c.if-b-lt32768.true)) c.put_labelled.ensures
 
 pub put_labelled-requires-2 : goal.put_labelled-requires-2
-put_labelled-requires-2 c =
-    let down : (let b = c.args.b in constant_text (signed b) ≡ constant_text (minus (0x10000 - b))) = ap constant_text (signed_minus c.args.b c.if-b-lt32768.false) in
-    subst (Fits c.args.out.now c.args.at) (down) c.requires.1
+put_labelled-requires-2 c = let a = c.args in subst (Fits a.out.now a.at) (down a.b c.if-b-lt32768.false) c.requires.1
 
 pub returns : goal.returns
-returns c =
-    let down : (let b = c.args.b in constant_text (signed b) ≡ constant_text (minus (0x10000 - b))) = ap constant_text (signed_minus c.args.b c.if-b-lt32768.false) in
-    same_text (sym (down)) c.put_labelled-2.ensures
+returns c = same_text (sym (down c.args.b c.if-b-lt32768.false)) c.put_labelled-2.ensures

@@ -1,16 +1,16 @@
 -- Number, kind, a and b, one after the other with a space between them, then the end of the line.
-use mathlib.Core.Path.{ap}
-use mathlib.Core.List.{[], ◌∷◌}
+use Rattle.std.proofs.Common.{[], ◌∷◌, ap}
 use Rattle.circuit.specs.Bytes.{byte}
-use Rattle.text.specs.Text.{labelled, space}
+use Rattle.text.specs.Text.{decimal, labelled, space}
 use Rattle.listing.specs.Records.{operand_of}
 use Rattle.text.proofs.Putting.{same_text, then}
 use Rattle.listing.proofs.put_gate_line.Goals as goal
 
 pub returns : goal.returns
 returns c =
-    let spaced = then c.put_decimal-space.ensures c.put_text-kind.ensures in
-    let kind = then spaced c.put_kind-first.ensures in
+    let number = same_text (ap decimal c.from.ensures) c.put_decimal-space.ensures in
+    let spaced = then number c.put_text-kind.ensures in
+    let kind = then spaced (same_text c.name_of.ensures c.put_text-first.ensures) in
     let first = then kind (same_text (ap (labelled (space ∷ [])) c.u16_at-a.ensures.0) c.put_labelled-second.ensures) in
     let second = then first (same_text (ap (operand_of (byte c.args.bytes.now 2)) c.u16_at-b.ensures.0) c.put_operand-end.ensures) in
     then second c.put_text.ensures

@@ -1,4 +1,3 @@
-use native.Mathlib.Omega.{arith}
 use Rattle.records.proofs.Records.{lent_long}
 use Rattle.listing.specs.Records.{record_lines}
 use Rattle.text.proofs.Putting.{nothing, same_text, then, left}
@@ -7,17 +6,17 @@ use Rattle.listing.proofs.put_gate_lines.Goals as goal
 
 pub loop-k-init : goal.loop-k-init
 unfolding record_lines
-loop-k-init c = (omega arith, nothing)
+loop-k-init c = nothing
 
 pub put_gate_line-end-requires : goal.put_gate_line-end-requires
 put_gate_line-end-requires c =
     let a = c.args in
-    let less = c.loop-k-test.true in (
+    let less = c.loop-k-test.true in
+    rw c.from.ensures (
       lent_long a.table.now a.count c.loop-k.k c.requires.0 less,
-      left c.loop-k.invariant.1 _ (lines_room a.out.now a.at a.table.now a.count c.loop-k.k less c.requires.1),
+      left c.loop-k.invariant _ (lines_room a.out.now a.at a.table.now a.count c.loop-k.k less c.requires.1),
     )
 
 pub loop-k-preserved : goal.loop-k-preserved
 loop-k-preserved c =
-    let table = c.args.table.now in
-    (omega arith, same_text (lines_more table c.loop-k.k) (then c.loop-k.invariant.1 c.put_gate_line-end.ensures))
+    same_text (lines_more c.args.table.now c.loop-k.k) (then c.loop-k.invariant (rw c.from.ensures at c.put_gate_line-end.ensures))

@@ -8,4 +8,5 @@ returns c =
     let squares = then products c.put_labelled-cost.ensures in
     let cost = then squares c.put_labelled-depth.ensures in
     let depth = then cost c.put_labelled-end.ensures in
-    then depth c.put_text.ensures
+    let line = then depth c.put_text.ensures in
+    rw (c.from.ensures, c.from-2.ensures, c.from-3.ensures, c.from-4.ensures) at line
