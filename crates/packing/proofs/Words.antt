@@ -137,6 +137,7 @@ made_of words = record {
   products = word words 6;
   squares = word words 7;
   outputs = outputs_in words;
+  room = refl;
 }
 
 -- the first of n outputs whose gates and depths stand from two places on
