@@ -9,11 +9,12 @@ ghost use Rattle.circuit.specs.Constant.{signed};
 ghost use Rattle.query.specs.Outcomes.{building};
 ghost use Rattle.listing.specs.Lines.{constant_text, summary_line, refusal_line};
 ghost use Rattle.listing.specs.Listing.{listing};
-ghost use Rattle.text.specs.Putting.{Puts, Fits};
+ghost use Rattle.text.specs.Putting.{HasRoom, Adds};
 ghost use Rattle.listing.specs.Records.{name_of, operand_of, record_line, record_lines};
 
 use answer::{Refusal, Report};
 use records::{Kind, MOST_GATES, RECORD};
+use text::Writer;
 
 // The bytes of the longest card.
 pub const MOST_CARD: usize = card::HEAD + card::MOST_RECORD * card::MOST_CONDITIONS;
@@ -41,77 +42,75 @@ fn name_of(number: u8) -> &'static [u8]
 }
 
 // A constant by its sixteen bits, with its sign, after a space. This function and those below put a
-// text at a place of out, and answer the place after it.
-fn put_constant(out: &mut [u8], at: usize, b: u32) -> usize
-    requires { (b < 0x10000) × Fits out.old at (constant_text (signed b)) }
-    ensures { Puts out.old at (constant_text (signed b)) out.new result }
+// text after what out has.
+fn put_constant(out: &mut Writer, b: u32)
+    requires { (b < 0x10000) × HasRoom out.old (constant_text (signed b)) }
+    ensures { Adds out.old (constant_text (signed b)) out.new }
 {
     if b < 0x8000 {
-        return text::put_labelled(out, at, b" ", b);
+        return out.put_labelled(b" ", b);
     }
-    text::put_labelled(out, at, b" -", 0x10000 - b)
+    out.put_labelled(b" -", 0x10000 - b);
 }
 
 // b of a gate, after a space: of a SCALE a constant, of any other kind a number.
-fn put_operand(out: &mut [u8], at: usize, kind: u8, b: u32) -> usize
-    requires { (b < 0x10000) × Fits out.old at (operand_of kind b) }
-    ensures { Puts out.old at (operand_of kind b) out.new result }
+fn put_operand(out: &mut Writer, kind: u8, b: u32)
+    requires { (b < 0x10000) × HasRoom out.old (operand_of kind b) }
+    ensures { Adds out.old (operand_of kind b) out.new }
 {
     if kind == u8::from(Kind::Scale) {
-        return put_constant(out, at, b);
+        return put_constant(out, b);
     }
-    text::put_labelled(out, at, b" ", b)
+    out.put_labelled(b" ", b);
 }
 
 // The line of gate number k, whose record the bytes begin with.
-fn put_gate_line(out: &mut [u8], at: usize, k: u16, bytes: &[u8]) -> usize
-    requires { (8 ≤ length bytes.now) × Fits out.old at (record_line k bytes.now) }
-    ensures { Puts out.old at (record_line k bytes.now) out.new result }
+fn put_gate_line(out: &mut Writer, k: u16, bytes: &[u8])
+    requires { (8 ≤ length bytes.now) × HasRoom out.old (record_line k bytes.now) }
+    ensures { Adds out.old (record_line k bytes.now) out.new }
 {
     let a = records::u16_at(bytes, 4) as u32;
     let b = records::u16_at(bytes, 6) as u32;
-    let space = text::put_decimal(out, at, u32::from(k));
-    let kind = text::put_text(out, space, b" ");
-    let first = text::put_text(out, kind, name_of(bytes[2]));
-    let second = text::put_labelled(out, first, b" ", a);
-    let end = put_operand(out, second, bytes[2], b);
-    text::put_text(out, end, b"\n")
+    out.put_decimal(u32::from(k));
+    out.put(b" ");
+    out.put(name_of(bytes[2]));
+    out.put_labelled(b" ", a);
+    put_operand(out, bytes[2], b);
+    out.put(b"\n");
 }
 
 // The lines of the first count gates of a table.
-fn put_gate_lines(out: &mut [u8], at: usize, table: &[u8], count: u16) -> usize
-    requires { (8 * (count + 1) ≤ length table.now) × Fits out.old at (record_lines 0 count (drop 8 table.now)) }
-    ensures { Puts out.old at (record_lines 0 count (drop 8 table.now)) out.new result }
+fn put_gate_lines(out: &mut Writer, table: &[u8], count: u16)
+    requires { (8 * (count + 1) ≤ length table.now) × HasRoom out.old (record_lines 0 count (drop 8 table.now)) }
+    ensures { Adds out.old (record_lines 0 count (drop 8 table.now)) out.new }
 {
-    let mut end = at;
     for k in 0..count {
         let start = RECORD * (usize::from(k) + 1);
-        end = put_gate_line(out, end, k, &table[start..]);
+        put_gate_line(out, k, &table[start..]);
     }
-    end
 }
 
 // The counts of a table, in a line.
-fn put_summary(out: &mut [u8], at: usize, told: Report) -> usize
-    requires { Fits out.old at (summary_line (report_of told)) }
-    ensures { Puts out.old at (summary_line (report_of told)) out.new result }
+fn put_summary(out: &mut Writer, told: Report)
+    requires { HasRoom out.old (summary_line (report_of told)) }
+    ensures { Adds out.old (summary_line (report_of told)) out.new }
 {
-    let products = text::put_labelled(out, at, b"gates ", u32::from(told.gates));
-    let squares = text::put_labelled(out, products, b" products ", u32::from(told.products));
-    let cost = text::put_labelled(out, squares, b" squares ", u32::from(told.squares));
-    let depth = text::put_labelled(out, cost, b" cost ", told.cost.0);
-    let end = text::put_labelled(out, depth, b" depth ", u32::from(told.depth.0));
-    text::put_text(out, end, b"\n")
+    out.put_labelled(b"gates ", u32::from(told.gates));
+    out.put_labelled(b" products ", u32::from(told.products));
+    out.put_labelled(b" squares ", u32::from(told.squares));
+    out.put_labelled(b" cost ", told.cost.0);
+    out.put_labelled(b" depth ", u32::from(told.depth.0));
+    out.put(b"\n");
 }
 
 // The line of a refusal, by its number.
-fn put_refusal(out: &mut [u8], at: usize, why: Refusal) -> usize
-    requires { Fits out.old at (refusal_line (refusal_number why)) }
-    ensures { Puts out.old at (refusal_line (refusal_number why)) out.new result }
+fn put_refusal(out: &mut Writer, why: Refusal)
+    requires { HasRoom out.old (refusal_line (refusal_number why)) }
+    ensures { Adds out.old (refusal_line (refusal_number why)) out.new }
 {
     let number = u8::from(why);
-    let end = text::put_labelled(out, at, b"refused ", u32::from(number));
-    text::put_text(out, end, b"\n")
+    out.put_labelled(b"refused ", u32::from(number));
+    out.put(b"\n");
 }
 
 // Puts the listing of a card at the start of text and answers its length. The table is built in the
@@ -123,11 +122,19 @@ pub fn list_card(card: &[u8], table: &mut [u8; MOST_TABLE], text: &mut [u8; MOST
     ensures fits { result ≤ length text.new }
     ensures leaves { table.new ≡ (building card.now table.old).lent }
 {
+    let mut out = Writer {
+        bytes: text,
+        end: 0,
+    };
     match builder::build(card, table) {
         Ok(told) => {
-            let at = put_summary(text, 0, told);
-            put_gate_lines(text, at, table, told.gates)
+            put_summary(&mut out, told);
+            put_gate_lines(&mut out, table, told.gates);
+            out.end
         }
-        Err(why) => put_refusal(text, 0, why),
+        Err(why) => {
+            put_refusal(&mut out, why);
+            out.end
+        }
     }
 }

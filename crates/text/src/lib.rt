@@ -2,37 +2,46 @@
 #![tactic(auto)]
 
 ghost use Rattle.text.specs.Text.{labelled, decimal};
-ghost use Rattle.text.specs.Putting.{Puts, Fits};
+ghost use Rattle.text.specs.Putting.{HasRoom, Adds};
 
-// A text. This function and those below put one at a place of out, and answer the place after it.
-pub fn put_text(out: &mut [u8], at: usize, text: &[u8]) -> usize
-    requires { Fits out.old at text.now }
-    ensures { Puts out.old at text.now out.new result }
-{
-    let end = at + text.len();
-    out[at..end].copy_from_slice(text);
-    end
+// Lent bytes, and where the text ends that was put into them. Each method puts more text after it.
+#[derive(Drop)]
+pub struct Writer<'a> {
+    pub bytes: &'a mut [u8],
+    pub end: usize,
 }
 
-// A number, in decimal digits.
-pub fn put_decimal(out: &mut [u8], at: usize, n: u32) -> usize
-    requires { Fits out.old at (decimal n) }
-    ensures { Puts out.old at (decimal n) out.new result }
-{
-    if n < 10 {
-        out[at] = b'0' + n as u8;
-        return at + 1;
+impl<'a> Writer<'a> {
+    // A text.
+    pub fn put(&mut self, text: &[u8])
+        requires { HasRoom self.old text.now }
+        ensures { Adds self.old text.now self.new }
+    {
+        let at = self.end;
+        let end = at + text.len();
+        let bytes = &mut *self.bytes;
+        bytes[at..end].copy_from_slice(text);
+        self.end = end;
     }
-    let last = put_decimal(out, at, n / 10);
-    out[last] = b'0' + (n % 10) as u8;
-    last + 1
-}
 
-// A word and a number.
-pub fn put_labelled(out: &mut [u8], at: usize, word: &[u8], n: u32) -> usize
-    requires { Fits out.old at (labelled word.now n) }
-    ensures { Puts out.old at (labelled word.now n) out.new result }
-{
-    let number = put_text(out, at, word);
-    put_decimal(out, number, n)
+    // A number, in decimal digits.
+    pub fn put_decimal(&mut self, n: u32)
+        requires { HasRoom self.old (decimal n) }
+        ensures { Adds self.old (decimal n) self.new }
+    {
+        if n < 10 {
+            return self.put(&[b'0' + n as u8]);
+        }
+        self.put_decimal(n / 10);
+        self.put(&[b'0' + (n % 10) as u8]);
+    }
+
+    // A word and a number.
+    pub fn put_labelled(&mut self, word: &[u8], n: u32)
+        requires { HasRoom self.old (labelled word.now n) }
+        ensures { Adds self.old (labelled word.now n) self.new }
+    {
+        self.put(word);
+        self.put_decimal(n);
+    }
 }

@@ -8,15 +8,16 @@ pub loop-k-init : goal.loop-k-init
 unfolding record_lines
 loop-k-init c = nothing
 
-pub put_gate_line-end-requires : goal.put_gate_line-end-requires
-put_gate_line-end-requires c =
+pub put_gate_line-requires : goal.put_gate_line-requires
+put_gate_line-requires c =
     let a = c.args in
+    let w = a.out.now in
     let less = c.loop-k-test.true in
     rw c.from.ensures (
       lent_long a.table.now a.count c.loop-k.k c.requires.0 less,
-      left c.loop-k.invariant _ (lines_room a.out.now a.at a.table.now a.count c.loop-k.k less c.requires.1),
+      left c.loop-k.invariant _ (lines_room w.bytes.now w.end a.table.now a.count c.loop-k.k less c.requires.1),
     )
 
 pub loop-k-preserved : goal.loop-k-preserved
 loop-k-preserved c =
-    same_text (lines_more c.args.table.now c.loop-k.k) (then c.loop-k.invariant (rw c.from.ensures at c.put_gate_line-end.ensures))
+    same_text (lines_more c.args.table.now c.loop-k.k) (then c.loop-k.invariant (rw c.from.ensures at c.put_gate_line.ensures))
