@@ -1,7 +1,7 @@
 // What the operations answer: why one turns its input away, and the report on a table.
 #![tactic(auto)]
 
-ghost use Rattle.std.specs.Prelude.{◌≡◌, ◌<◌, max};
+ghost use Rattle.std.specs.Prelude.{◌≡◌, ◌<◌};
 ghost use Rattle.answer.specs.Numbers.{refusal_number};
 ghost use Rattle.answer.specs.Report.{cost_of};
 
@@ -101,17 +101,10 @@ pub struct Report {
     pub depth: Depth,
 }
 
-// The larger of two depths.
-pub fn deeper(a: u16, b: u16) -> u16
-    ensures { result ≡ max a b }
-{
-    if a < b { b } else { a }
-}
-
 // 100 for each product and the weight for each square.
 pub fn cost_of(products: u32, squares: u32, weight: u8) -> Cost
     requires { (products < 65536) × (squares < 65536) }
     ensures { result.0 ≡ cost_of weight products squares }
 {
-    Cost(100 * products + (weight as u32) * squares)
+    Cost(100 * products + u32::from(weight) * squares)
 }

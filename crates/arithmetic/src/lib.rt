@@ -103,9 +103,3 @@ pub fn ceil_log2(n: u16) -> u16
     }
     (n - 1).ilog2() as u16 + 1
 }
-
-pub fn wide(x: u8) -> usize
-    ensures { (result ≡ x) × (result < byte_values) }
-{
-    x as usize
-}

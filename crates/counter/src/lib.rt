@@ -23,15 +23,12 @@ ghost use Rattle.counter.specs.Marks.{Markable, UsedMarked};
 ghost use Rattle.counter.specs.Chains.{is_linked, starts_after, next_after, Linkable, Linked, Walkable, Walked, ChainsCountable};
 ghost use Rattle.counter.specs.Counts.{Ready, CountsOf};
 
-use records::{MOST_GATES, RECORD, u16_at};
+use records::{Kind, MOST_GATES, RECORD, u16_at};
 
 // The most gates of a small table, and of one of middle size.
 const SMALL: usize = 256;
 
 const MIDDLE: usize = 2048;
-
-// The kind of a MUL.
-const MUL: u8 = 7;
 
 // The mark of a used gate.
 const USED: u16 = 1;
@@ -122,7 +119,7 @@ impl<'a> Table<'a> {
     {
         let at = self.record(k);
         let used = marks[k] == USED;
-        used && self.bytes[at + 2] == MUL
+        used && self.bytes[at + 2] == u8::from(Kind::Mul)
     }
 
     // Puts gate number k, if it is a used MUL, at the start of the chain of its higher operand.
