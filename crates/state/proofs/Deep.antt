@@ -1,6 +1,6 @@
 -- A product tree over outputs of which none is deeper than a condition.
 -- Assumes nothing.
-use Rattle.std.proofs.Common.{◌≡◌, Bool, true, false, ◌||◌, List, [], ◌∷◌, map, ltb, refl, ap, ℕ, ◌≤◌, arith}
+use Rattle.std.proofs.Common.{◌≡◌, Bool, false, ◌||◌, List, [], ◌∷◌, map, ltb, refl, ap, ℕ, ◌≤◌, arith}
 use Rattle.std.specs.List.{list_any}
 use borrow.Author.Tests.{ltb-false}
 use Rattle.field.proofs.Tests.{neither}

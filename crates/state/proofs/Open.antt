@@ -15,7 +15,6 @@ use Rattle.digits.specs.Number.{most_digits}
 use Rattle.circuit.specs.Table.{wrong_weight, most_gates}
 use Rattle.query.specs.Card.{most_conditions}
 use Rattle.filling.specs.State as filling
-use Rattle.writer.specs.Nodes.{node_is}
 use Rattle.writer.specs.Pen.{Room}
 use Rattle.writer.specs.declared.Pen.{Pen}
 use Rattle.state.specs.State.{state_is, pen_of}

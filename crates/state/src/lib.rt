@@ -9,7 +9,6 @@ ghost use Rattle.state.specs.State.{state_is, pen_of, grown, Growable};
 mod build;
 
 pub use build::BuildState;
-
 use card::MOST_CONDITIONS;
 use digits::MOST_DIGITS;
 use records::{LEAST_WEIGHT, MOST_WEIGHT};
