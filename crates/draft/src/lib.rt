@@ -62,7 +62,8 @@ fn put_conditions(
 fn has_order(card: Card<'_>) -> bool
     ensures { result ≡ any_order (conditions_of card.entry.bytes.now) }
 {
-    card.conditions().any(|condition| condition.relation.is_order())
+    card.conditions()
+        .any(|condition| condition.relation.is_order())
 }
 
 // What order digits go by, which only conditions with an order relation ask for.

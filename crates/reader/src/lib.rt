@@ -48,8 +48,8 @@ impl<'a> Table<'a> {
         requires { k < self.outline.gates }
         ensures { (result.now ≡ drop (8 * (k + 1)) self.entry.bytes.now) × (8 ≤ length result.now) }
     {
-        let at = RECORD * (k + 1);
-        &self.bytes[at..]
+        let start = RECORD * (k + 1);
+        &self.bytes[start..]
     }
 }
 

@@ -1,13 +1,11 @@
-use Rattle.std.proofs.Common.{◌≡◌, ℕ, ◌+◌, ◌*◌, ◌≤◌, ◌<◌, ap, sym, ◌∙◌, arith, length, refl, inl, map}
+use Rattle.std.proofs.Common.{ap, sym, ◌∙◌, arith, length, refl, inl, map}
 use Rattle.std.proofs.Math.ListN.{length-set}
 use Rattle.std.proofs.Math.Seq.{take_all}
 use Rattle.std.proofs.lemmas.List.{length_push}
 use Rattle.std.specs.Iterator.Adapters.{enumerate_source, enumerate_count}
-use Rattle.comparison.specs.Condition.{Condition, unweighed, HasSlots}
 use Rattle.card.specs.Accepted.{conditions_left}
 use Rattle.card.specs.Conditions.{conditions_of, IsRecord}
-use Rattle.card.specs.Parts.{record_is}
-use Rattle.card.proofs.Iteration.{AtTurn, turn_numbered, ended_numbered}
+use Rattle.card.proofs.Iteration.{turn_numbered, ended_numbered}
 use Rattle.card.proofs.ReadAs.{as_many}
 use Rattle.writer.specs.Nodes.{node_is}
 use Rattle.draft.proofs.Adding.{begins, ends, fits, adds}
@@ -80,8 +78,7 @@ loop-k-preserved c =
     let wrote = rw (c.modulus_of-m.ensures, c.from.ensures, c.from-in-loop-k.ensures, c.from-in-loop-k-2.ensures) at e.wrote in
     let moves = rw (c.modulus_of-m.ensures, c.from.ensures, c.from-in-loop-k.ensures, c.from-in-loop-k-2.ensures) at e.moves in
     let output = rw (c.modulus_of-m.ensures, c.from.ensures, c.from-in-loop-k.ensures, c.from-in-loop-k-2.ensures) at e.output in
-    let more = adds _ _ _ _ _ _ _ _ known.0 r is _ _ c.put_condition-written.result.node wrote moves output (omega (arith, this, known.2, c.requires.outputs)) in
-    (
+    let more = adds _ _ _ _ _ _ _ _ known.0 r is _ _ c.put_condition-written.result.node wrote moves output (omega (arith, this, known.2, c.requires.outputs)) in (
       rw (length_push c.loop-k.yielded (c.in-Some.k, r), this.0) more,
       omega (arith, known.1, c),
       length-set c.loop-k.outputs c.in-Some.k c.put_condition-written.result.node ∙ known.2,

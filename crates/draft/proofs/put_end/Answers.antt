@@ -1,4 +1,4 @@
-use Rattle.std.proofs.Common.{◌≡◌, ℕ, sym, ap, ◌∙◌, arith}
+use Rattle.std.proofs.Common.{◌≡◌, sym, ap, ◌∙◌, arith}
 use Rattle.query.specs.Form.{Question, YesOrNo, question_of}
 use Rattle.query.specs.Formulas.{end_size}
 use Rattle.card.specs.Parts.{form_is, question_is}

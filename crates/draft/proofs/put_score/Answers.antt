@@ -1,9 +1,8 @@
-use Rattle.std.proofs.Common.{◌≡◌, ℕ, ◌+◌, ◌%◌, ◌≤◌, ◌<◌, [], ◌∷◌, map, refl, ap, ◌∙◌, arith, length, get_or, drop}
+use Rattle.std.proofs.Common.{◌≡◌, [], ◌∷◌, map, refl, ap, ◌∙◌, arith, length, get_or}
 use Rattle.std.proofs.Math.ListN.{length-map}
-use Rattle.field.specs.Modular.{residue}
-use Rattle.circuit.specs.Constant.{Constant, code, signed, bits_of}
+use Rattle.circuit.specs.Constant.{Constant, signed}
 use Rattle.circuit.specs.Gate.{Scale, Add}
-use Rattle.card.specs.Conditions.{conditions_of, IsWeight}
+use Rattle.card.specs.Conditions.{conditions_of}
 use Rattle.card.proofs.ReadAs.{as_many}
 use Rattle.writer.proofs.Writing.{same_gates}
 use Rattle.writer.specs.Nodes.{node_is}

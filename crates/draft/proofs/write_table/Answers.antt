@@ -1,4 +1,4 @@
-use Rattle.std.proofs.Common.{◌≡◌, ℕ, sym, ap, ◌∙◌, arith, refl, length, replicate}
+use Rattle.std.proofs.Common.{sym, ap, ◌∙◌, arith, refl, replicate}
 use Rattle.std.proofs.Math.Seq.{length-take-le}
 use Rattle.circuit.specs.Segment as segment
 use Rattle.query.specs.Card.{most_conditions}
