@@ -1,12 +1,11 @@
 -- What a card that was read gives the search: its conditions and its prime, the best of all as what is left at the start,
 -- the report on its base table, and what rating goes by, where it has an order digit.
 -- Assumes nothing.
-use mathlib.Core.Path.{◌≡◌, refl, sym, ap, subst, ◌∙◌}
+use mathlib.Core.Path.{◌≡◌, refl, sym, ap, ◌∙◌}
 use mathlib.Core.Bool.{Bool, true, false, ◌||◌}
 use mathlib.Core.List.{List, [], ◌∷◌}
-use Prim.Native.Nat.{ℕ, ◌+◌, ◌-◌, ◌*◌, ◌≤◌}
+use Prim.Native.Nat.{ℕ, ◌+◌, ◌-◌, ◌≤◌}
 use native.Mathlib.Omega.{arith}
-use lib.ListN.{length}
 use Rattle.answer.specs.Outcome.{Answer, refused, accepted, on_answer}
 use Rattle.answer.specs.Report.{Report}
 use Rattle.answer.proofs.Outcome.{accepted_same}
@@ -14,7 +13,6 @@ use Rattle.field.specs.Half.{half}
 use Rattle.field.specs.Sum.{total}
 use Rattle.digits.specs.Number.{most_digits}
 use Rattle.circuit.specs.Report.{report}
-use Rattle.circuit.specs.Table.{most_gates}
 use Rattle.comparison.specs.Condition.{Condition}
 use Rattle.comparison.specs.Formulas.{order_digits_in}
 use Rattle.comparison.specs.Relation.{is_order}

@@ -1,4 +1,4 @@
-use Rattle.std.proofs.Common.{sym, ap, ◌∙◌, arith, rules}
+use Rattle.std.proofs.Common.{sym, ap, ◌∙◌}
 use Rattle.answer.specs.Report.{report_of}
 use Rattle.offer.specs.Digits.{order_digits}
 use Rattle.card.proofs.ReadAs.{conditions_are}

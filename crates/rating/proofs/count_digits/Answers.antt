@@ -1,7 +1,5 @@
-use Rattle.std.proofs.Common.{◌≡◌, ◌+◌, ◌≤◌, ap, sym, ◌∙◌, arith, length, zero-le}
+use Rattle.std.proofs.Common.{arith, zero-le}
 use Rattle.std.proofs.lemmas.List.{length_push}
-use Rattle.digits.specs.Number.{most_digits}
-use Rattle.card.specs.Accepted.{conditions_left}
 use Rattle.card.specs.Conditions.{conditions_of}
 use Rattle.card.proofs.Iteration.{turn, ended}
 use Rattle.card.proofs.ReadAs.{as_many}

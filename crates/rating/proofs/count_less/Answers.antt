@@ -1,4 +1,4 @@
-use Rattle.std.proofs.Common.{ℕ, ◌+◌, ◌-◌, ◌*◌, ◌≤◌, length, arith}
+use Rattle.std.proofs.Common.{◌-◌, ◌*◌, ◌≤◌, length, arith}
 use Rattle.step.specs.Digit.{step_gates}
 use Rattle.step.proofs.Digit.{less_few}
 use Rattle.rating.proofs.count_less.Goals as goal

@@ -1,7 +1,6 @@
-use Rattle.std.proofs.Common.{◌≡◌, ◌+◌, ◌*◌, false, ltb, length, sym, ap, ◌∙◌}
-use borrow.Author.Tests.{lt-ltb, le-ltb}
-use Rattle.query.specs.Whole.{table_of}
-use Rattle.within.proofs.Tables.{too_deep, no_room, laid, base_told, base_drawable}
+use Rattle.std.proofs.Common.{◌≡◌, ◌+◌, ◌*◌, false, ltb, length}
+use borrow.Author.Tests.{le-ltb}
+use Rattle.within.proofs.Tables.{base_drawable}
 use Rattle.within.proofs.base_alone.Goals as goal
 
 pub write_table-requires : goal.write_table-requires

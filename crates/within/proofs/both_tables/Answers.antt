@@ -1,4 +1,4 @@
-use Rattle.std.proofs.Common.{◌≡◌, ◌+◌, ◌*◌, false, ltb, length, sym, ap, ◌∙◌}
+use Rattle.std.proofs.Common.{◌≡◌, ◌+◌, ◌*◌, false, ltb, length}
 use borrow.Author.Tests.{lt-ltb, le-ltb}
 use Rattle.query.specs.Whole.{table_of}
 use Rattle.offer.specs.Offer.{step_table}
@@ -12,7 +12,7 @@ returns-then-first-size_of c card e =
     let is = base_told a.card.bytes.now a.base card c.requires.ready.1 e in
     let so = (c.requires.step.1 card e).0 in
     elim c.then-first-size_of.branch [
-      then-first-size_of-via-then-first-size_of w ↦
+      | then-first-size_of-via-then-first-size_of w ↦
           no_room_first a.cap.0 (table_of card) (step_table card a.best.step) a.base a.best.told is so a.first.now a.second.now
           (lt-ltb _ _ (rw c.size_of.ensures at w.if-first-size_of.true))
       | then-first-size_of-via-else-first-size_of+then-second-size_of w ↦

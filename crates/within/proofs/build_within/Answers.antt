@@ -1,4 +1,4 @@
-use Rattle.std.proofs.Common.{◌≡◌, sym, ap, ◌∙◌, rules}
+use Rattle.std.proofs.Common.{rules}
 use Rattle.within.proofs.Choosing.{plain_leaves, plain_refused}
 use Rattle.within.proofs.build_within.Goals as goal
 

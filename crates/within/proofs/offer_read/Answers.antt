@@ -1,7 +1,4 @@
-use Rattle.std.proofs.Common.{ap}
-use Rattle.offer.specs.Best.{chosen}
-use Rattle.chooser.specs.Kept.{choice_is}
-use Rattle.within.proofs.Choosing.{chosen_known, chosen_step, by_choice}
+use Rattle.within.proofs.Choosing.{chosen_known, chosen_step}
 use Rattle.within.proofs.offer_read.Goals as goal
 
 pub both_tables-requires : goal.both_tables-requires

@@ -1,7 +1,4 @@
-use Rattle.std.proofs.Common.{◌≡◌, ℕ, ◌+◌, ◌*◌, ◌≤◌, length, sym, ap, ap₂, ◌∙◌, arith}
-use Rattle.comparison.specs.OrderDigit.{less_count}
-use Rattle.offer.specs.Offer.{step_table}
-use Rattle.step.specs.Digit.{step_less}
+use Rattle.std.proofs.Common.{arith}
 use Rattle.rating.proofs.Rating.{known, gates_told, gates_are, drawable, too_many, told_of}
 use Rattle.rating.proofs.Search.rate.Goals as goal
 
