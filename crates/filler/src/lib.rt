@@ -23,12 +23,7 @@ use state::BuildState;
 use writer::Slots;
 
 // Starts a build afresh, also over an open one: the head of a table of no gates, or 3, 4 or 11.
-pub fn begin(
-    state: &mut BuildState,
-    prime: u8,
-    weight: u8,
-    table: &mut [u8],
-) -> Result<(), Refusal>
+pub fn begin(state: &mut BuildState, prime: u8, weight: u8, table: &mut [u8]) -> Result<(), Refusal>
     ensures answers { settled_answer result ≡ (beginning (state_is state.old) prime weight table.old).answer }
     ensures next { state_is state.new ≡ (beginning (state_is state.old) prime weight table.old).state }
     ensures leaves { table.new ≡ (beginning (state_is state.old) prime weight table.old).lent }

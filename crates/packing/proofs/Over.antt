@@ -1,6 +1,6 @@
 -- Gates and depths of outputs, put one by one over zeros.
 -- Assumes nothing.
-use Rattle.std.proofs.Common.{◌≡◌, refl, ap, ap₂, sym, ◌∙◌, List, [], ◌∷◌, ◌++◌, map, ℕ, zero, suc, ◌≤◌, ◌<◌, length, get_or, take, drop, replicate, arith, le_of_suc-le-suc}
+use Rattle.std.proofs.Common.{◌≡◌, refl, ap, ap₂, sym, ◌∙◌, List, [], ◌∷◌, ◌++◌, map, ℕ, zero, suc, ◌<◌, length, get_or, take, drop, replicate, arith, le_of_suc-le-suc}
 use Rattle.std.proofs.Math.ListN.{set, length-map}
 use Rattle.std.proofs.Math.Seq.{take_all}
 use Rattle.query.specs.Card.{most_conditions}

@@ -24,7 +24,7 @@ use Rattle.writer.specs.Nodes.{node_is}
 use Rattle.writer.specs.declared.Node as code
 use Rattle.state.specs.State.{state_is}
 use Rattle.state.specs.declared.build.BuildState as declared
-use Rattle.packing.specs.Outputs.{gates_of, depths_of, output_at, outputs_in}
+use Rattle.packing.specs.Outputs.{gates_of, depths_of, outputs_in}
 use Rattle.packing.specs.Words.{padded, words_of, nodes, word, wrong_words, state_in, WordsBack, OpenedWords, FreshWords}
 
 -- ---- entries one by one

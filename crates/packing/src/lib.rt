@@ -10,11 +10,10 @@ ghost use Rattle.state.specs.State.{state_is};
 ghost use Rattle.packing.specs.Words.{padded, words_of, wrong_words, state_in, words_after};
 ghost use Rattle.packing.specs.Outputs.{gates_of, depths_of, outputs_in};
 
-use std::array;
-
 use answer::{Refusal, Report};
 use card::MOST_CONDITIONS;
 use state::BuildState;
+use std::array;
 use writer::Node;
 
 // The most that a byte holds.
@@ -112,12 +111,7 @@ fn state_in(words: &[u16; 24]) -> BuildState
 }
 
 // Starts a build afresh, also over an open one: the head of a table of no gates.
-pub fn begin(
-    words: &mut [u16; 24],
-    prime: u8,
-    weight: u8,
-    table: &mut [u8],
-) -> Result<(), Refusal>
+pub fn begin(words: &mut [u16; 24], prime: u8, weight: u8, table: &mut [u8]) -> Result<(), Refusal>
     ensures answers { settled_answer result ≡ (beginning (state_in words.old) prime weight table.old).answer }
     ensures words { words.new ≡ words_after words.old (beginning (state_in words.old) prime weight table.old) }
     ensures leaves { table.new ≡ (beginning (state_in words.old) prime weight table.old).lent }

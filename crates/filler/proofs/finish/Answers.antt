@@ -1,4 +1,4 @@
-use Rattle.std.proofs.Common.{◌≡◌, false, ◌≤◌, sym, ◌∙◌, length, arith}
+use Rattle.std.proofs.Common.{◌≡◌, false, sym, ◌∙◌, arith}
 use Rattle.filling.specs.Filling.{finishing}
 use Rattle.filling.specs.State.{BuildState, is_closed}
 use Rattle.state.specs.State.{state_is}

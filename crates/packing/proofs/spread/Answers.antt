@@ -1,4 +1,4 @@
-use Rattle.std.proofs.Common.{◌≡◌, ℕ, List, sym, ap, ◌∙◌, add-one, arith, ◌+◌, ◌<◌, ◌≤◌, length, get_or, replicate}
+use Rattle.std.proofs.Common.{◌≡◌, ℕ, List, add-one, arith, ◌+◌, ◌<◌, ◌≤◌, length, get_or, replicate}
 use Rattle.std.proofs.Math.ListN.{set}
 use Rattle.query.specs.Card.{most_conditions}
 use Rattle.writer.specs.declared.Node.{Node}
