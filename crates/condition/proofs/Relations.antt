@@ -20,10 +20,12 @@ use Rattle.equality.specs.Slots.{equality_condition}
 use Rattle.writer.specs.declared.Node.{Node}
 use Rattle.writer.specs.declared.Pen.{Pen}
 use Rattle.writer.specs.declared.Slots.{Slots}
+use Rattle.writer.specs.declared.Writer.{Writer}
 use Rattle.writer.specs.Nodes.{node_is}
-use Rattle.writer.specs.Pen.{Wrote, Room, Moved}
+use Rattle.writer.specs.Pen.{Moved}
 use Rattle.writer.specs.Slots.{condition_on}
-use Rattle.writer.proofs.Writing.{same_gates, then}
+use Rattle.writer.specs.Writing.{HasRoom, Writes}
+use Rattle.writer.proofs.Writing.{same_writes, follows}
 
 -- ---- relations of one sort
 
@@ -80,31 +82,27 @@ flip_size : (b : Bool) (node : segment.Node) (k : ℕ) → length (ending b node
 flip_size true node k = refl
 flip_size false node k = refl
 
-module _ (pen : Pen) (flipped : Bool) (part whole : segment.Segment) (e : whole ≡ ended flipped pen.next part) where
+module _ (k : ℕ) (flipped : Bool) (part whole : segment.Segment) (e : whole ≡ ended flipped k part) where
   pub size : length whole.gates ≡ length part.gates + bit flipped
   size =
       ap (λ (t : segment.Segment). length t.gates) e ∙ length-append part.gates _
-      ∙ ap (λ (n : ℕ). length part.gates + n) (flip_size flipped part.output (pen.next + length part.gates))
+      ∙ ap (λ (n : ℕ). length part.gates + n) (flip_size flipped part.output (k + length part.gates))
 
   -- the part is written, then the FLIP of its output if there is one
-  pub ends : {table table₁ table₂ : List ℕ} (pen₁ pen₂ : Pen) (node node₂ : Node) → Wrote table pen part.gates table₁ pen₁
-      → node_is node ≡ part.output → Wrote table₁ pen₁ (ending flipped (node_is node) pen₁.next).gates table₂ pen₂
-      → Moved pen₁ (bit flipped) pen₂ → node_is node₂ ≡ (ending flipped (node_is node) pen₁.next).output
-      → Wrote table pen whole.gates table₂ pen₂ × (Moved pen (length whole.gates) pen₂ × (node_is node₂ ≡ whole.output))
-  ends pen₁ pen₂ node node₂ w o w₂ m₂ o₂ =
-      let end = ap₂ (ending flipped) o w.number in (
-        same_gates (ap (λ (t : segment.Segment). t.gates) (sym e)) (then w (same_gates (ap (λ (t : segment.Segment). t.gates) end) w₂)),
-        (
-          omega (arith, w.number, m₂, size),
-          o₂ ∙ ap (λ (t : segment.Segment). t.output) end ∙ ap (λ (t : segment.Segment). t.output) (sym e),
-        ),
+  pub ends : {w w₁ w₂ : Writer} (node node₂ : Node) → w.pen.next ≡ k → Writes w part.gates w₁ → node_is node ≡ part.output
+      → Writes w₁ (ending flipped (node_is node) w₁.pen.next).gates w₂ → node_is node₂ ≡ (ending flipped (node_is node) w₁.pen.next).output
+      → Writes w whole.gates w₂ × (node_is node₂ ≡ whole.output)
+  ends node node₂ here first o last o₂ =
+      let end = ap₂ (ending flipped) o (first.wrote.number ∙ ap (λ (n : ℕ). n + length part.gates) here) in (
+        same_writes (ap (λ (t : segment.Segment). t.gates) (sym e)) (follows first (same_writes (ap (λ (t : segment.Segment). t.gates) end) last)),
+        o₂ ∙ ap (λ (t : segment.Segment). t.output) end ∙ ap (λ (t : segment.Segment). t.output) (sym e),
       )
 
 -- ---- as many gates, whichever side is subtracted
 
-module _ (p : ℕ) (t : Tests) (law : Lawful p t) (c d : Condition) (same : c.digits ≡ d.digits) (pen : Pen) (some : 1 ≤ c.digits) where
+module _ (p : ℕ) (t : Tests) (law : Lawful p t) (c d : Condition) (same : c.digits ≡ d.digits) (k : ℕ) (some : 1 ≤ c.digits) where
   abbrev size_of : Condition → ℕ
-  size_of by = length (order_segment t by pen.next).gates
+  size_of by = length (order_segment t by k).gates
 
   same_size : size_of c ≡ size_of d
   unfolding order_segment
@@ -112,14 +110,14 @@ module _ (p : ℕ) (t : Tests) (law : Lawful p t) (c d : Condition) (same : c.di
       let size = order_digit_size t in
       omega (
         arith,
-        order_size p t law c some pen.next,
-        order_size p t law d (omega arith) pen.next,
+        order_size p t law c some k,
+        order_size p t law d (omega arith) k,
         ap (λ (n : ℕ). size * n) same,
         ap flog same,
       )
 
-  pub either_room : (table : List ℕ) → Room table pen (size_of c) → Room table pen (size_of d)
-  either_room table room = rw same_size at room
+  pub either_room : (w : Writer) → HasRoom w (size_of c) → HasRoom w (size_of d)
+  either_room w room = rw same_size at room
 
-  pub either_moved : {pen₁ : Pen} → Moved pen (size_of c) pen₁ → Moved pen (size_of d) pen₁
-  either_moved moved = rw same_size at moved
+  pub either_moved : (pen pen₁ : Pen) → Moved pen (size_of c) pen₁ → Moved pen (size_of d) pen₁
+  either_moved pen pen₁ moved = rw same_size at moved

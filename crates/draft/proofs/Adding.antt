@@ -21,42 +21,40 @@ use Rattle.card.specs.Conditions.{IsRecord}
 use Rattle.writer.specs.Nodes.{node_is}
 use Rattle.writer.specs.declared.Node.{Node}
 use Rattle.writer.specs.declared.Pen.{Pen}
-use Rattle.writer.specs.Pen.{fresh, Wrote, Moved}
-use Rattle.writer.proofs.Writing.{none, same_gates, then}
+use Rattle.writer.specs.declared.Writer.{Writer}
+use Rattle.writer.specs.Pen.{fresh}
+use Rattle.writer.specs.Writing.{Writes}
+use Rattle.writer.proofs.Writing.{idle, same_writes, follows}
 
--- k conditions are written
-pub record Adds (t : Tests) (p : ℕ) (cs : List Condition) (table₀ table : List ℕ) (pen : Pen) (k : ℕ) (nodes : List Node) : Type 0 where
+-- k conditions are written, by a writer that had written nothing before
+pub record Adds (t : Tests) (p : ℕ) (cs : List Condition) (w₀ w : Writer) (k : ℕ) (nodes : List Node) : Type 0 where
   -- the draft that is written
   pub draft : Draft
-  pub wrote : Wrote table₀ fresh draft.gates table pen
-  pub counts : (pen.products ≤ pen.next) × (pen.squares ≤ pen.next)
+  pub starts : w₀.pen ≡ fresh
+  pub wrote : Writes w₀ draft.gates w
   pub outputs : map node_is (take k nodes) ≡ draft.outputs
   -- the conditions that are left make it the draft of all
   pub all : add_all t p draft (drop k cs) ≡ draft_of t p cs
 
-pub begins : (t : Tests) (p : ℕ) (cs : List Condition) (table : List ℕ) (nodes : List Node) → Adds t p cs table table fresh 0 nodes
-begins t p cs table nodes = record {
+pub begins : (t : Tests) (p : ℕ) (cs : List Condition) (w : Writer) (nodes : List Node) → w.pen ≡ fresh → Adds t p cs w w 0 nodes
+begins t p cs w nodes e = record {
   draft = begin;
-  wrote = none;
-  counts = (zero-le, zero-le);
+  starts = e;
+  wrote = idle (rw e zero-le) (rw e zero-le);
   outputs = refl;
   all = refl;
 }
 
 -- nothing is left
-pub ends : (t : Tests) (p : ℕ) (cs : List Condition) (table₀ table : List ℕ) (pen : Pen) (k : ℕ) (nodes : List Node) → length cs ≤ k
-    → Adds t p cs table₀ table pen k nodes
-    → Wrote table₀ fresh (draft_of t p cs).gates table pen
-    × Moved fresh (length (draft_of t p cs).gates) pen
-    × (map node_is (take k nodes) ≡ (draft_of t p cs).outputs)
+pub ends : (t : Tests) (p : ℕ) (cs : List Condition) (w₀ w : Writer) (k : ℕ) (nodes : List Node) → length cs ≤ k → Adds t p cs w₀ w k nodes
+    → Writes w₀ (draft_of t p cs).gates w × (map node_is (take k nodes) ≡ (draft_of t p cs).outputs)
 unfolding add_all
-ends t p cs table₀ table pen k nodes h a =
+ends t p cs w₀ w k nodes h a =
     let whole : a.draft ≡ draft_of t p cs = ap (add_all t p a.draft) (sym (drop_of_length-le cs h)) ∙ a.all in
-    let w = same_gates (ap (λ (d : Draft). d.gates) whole) a.wrote in
-    (w, (w.number, a.counts.0, a.counts.1), a.outputs ∙ ap (λ (d : Draft). d.outputs) whole)
+    (same_writes (ap (λ (d : Draft). d.gates) whole) a.wrote, a.outputs ∙ ap (λ (d : Draft). d.outputs) whole)
 
-module _ (t : Tests) (p : ℕ) (cs : List Condition) (table₀ table : List ℕ) (pen : Pen) (k : ℕ) (nodes : List Node)
-    (a : Adds t p cs table₀ table pen k nodes) (r : Record) (is : IsRecord cs k r) where
+module _ (t : Tests) (p : ℕ) (cs : List Condition) (w₀ w : Writer) (k : ℕ) (nodes : List Node)
+    (a : Adds t p cs w₀ w k nodes) (r : Record) (is : IsRecord cs k r) where
   -- the condition at hand, and those after it
   abbrev c : Condition
   c = record_is r
@@ -66,14 +64,14 @@ module _ (t : Tests) (p : ℕ) (cs : List Condition) (table₀ table : List ℕ)
 
   -- its gates, as they are written: its weight has no part in them
   abbrev own : segment.Segment
-  own = condition_by t p (unweighed c) pen.next
+  own = condition_by t p (unweighed c) w.pen.next
 
   -- the pen stands after the draft
-  next_is : pen.next ≡ length a.draft.gates
-  next_is = a.wrote.number ∙ omega arith
+  next_is : w.pen.next ≡ length a.draft.gates
+  next_is = a.wrote.wrote.number ∙ ap (λ (n : ℕ). n + length a.draft.gates) (ap (λ (pen : Pen). pen.next) a.starts) ∙ omega arith
 
   own_is : own ≡ condition_by t p c (length a.draft.gates)
-  own_is = weighs_nothing t p c pen.next ∙ ap (condition_by t p c) next_is
+  own_is = weighs_nothing t p c w.pen.next ∙ ap (condition_by t p c) next_is
 
   -- with this condition, and with those after it
   abbrev longer : Draft
@@ -83,7 +81,7 @@ module _ (t : Tests) (p : ℕ) (cs : List Condition) (table₀ table : List ℕ)
   unfolding add_all
   all_after = ap (add_all t p a.draft) (sym is) ∙ a.all
 
-  pub fits : pen.next + length own.gates ≤ length (draft_of t p cs).gates
+  pub fits : w.pen.next + length own.gates ≤ length (draft_of t p cs).gates
   fits =
       omega (
         arith,
@@ -95,13 +93,12 @@ module _ (t : Tests) (p : ℕ) (cs : List Condition) (table₀ table : List ℕ)
       )
 
   -- one condition more
-  pub adds : (table' : List ℕ) (pen' : Pen) (node : Node) → Wrote table pen own.gates table' pen' → Moved pen (length own.gates) pen'
-      → node_is node ≡ own.output → k < length nodes
-      → Adds t p cs table₀ table' pen' (k + 1) (set nodes k node)
-  adds table' pen' node w m o l = record {
+  pub adds : (w' : Writer) (node : Node) → Writes w own.gates w' → node_is node ≡ own.output → k < length nodes
+      → Adds t p cs w₀ w' (k + 1) (set nodes k node)
+  adds w' node wrote o l = record {
     draft = longer;
-    wrote = then a.wrote (same_gates (ap (λ (s : segment.Segment). s.gates) own_is) w);
-    counts = (m.1, m.2);
+    starts = a.starts;
+    wrote = follows a.wrote (same_writes (ap (λ (s : segment.Segment). s.gates) own_is) wrote);
     outputs =
         ap (map node_is) (ap (λ (n : ℕ). take n (set nodes k node)) (add-one k) ∙ take-suc-set nodes k node l)
         ∙ map-append node_is (take k nodes) (node ∷ [])

@@ -9,7 +9,9 @@ use Rattle.query.specs.Whole.{Draft, draft_of}
 use Rattle.card.specs.declared.CardHead.{CardHead}
 use Rattle.card.specs.Conditions.{conditions_of}
 use Rattle.writer.specs.declared.Node.{Node}
-use Rattle.writer.specs.Pen.{Room, fresh}
+use Rattle.writer.specs.declared.Writer.{Writer}
+use Rattle.writer.specs.Pen.{fresh}
+use Rattle.writer.specs.Writing.{HasRoom}
 
 -- the draft of conditions by a step size, or by none, which 0 stands for
 abbrev pub drafted : ℕ → ℕ → List Condition → Draft
@@ -24,10 +26,11 @@ any_order (c ∷ cs) = is_order c.relation || any_order cs
 abbrev pub Ready : ℕ → List Condition → OrderTables → Type 0
 Ready p cs tables = any_order cs ≡ true → Prepared p tables
 
--- of what a card says, a step size of its prime or none, room for the conditions in a table, what order digits go by, and an entry for
--- the output of each condition
-pub record Writable (card : List ℕ) (head : CardHead) (step : ℕ) (table : List ℕ) (tables : OrderTables) (nodes : List Node) : Type 0 where
+-- of what a card says, a step size of its prime or none, a writer that has written nothing yet, with room for the conditions, what order
+-- digits go by, and an entry for the output of each condition
+pub record Writable (card : List ℕ) (head : CardHead) (step : ℕ) (out : Writer) (tables : OrderTables) (nodes : List Node) : Type 0 where
   pub suits : Suits head.prime step
-  pub room : Room table fresh (length (drafted head.prime step (conditions_of card)).gates)
+  pub starts : out.pen ≡ fresh
+  pub room : HasRoom out (length (drafted head.prime step (conditions_of card)).gates)
   pub ready : Ready head.prime (conditions_of card) tables
   pub outputs : length nodes ≡ head.count

@@ -1,9 +1,9 @@
 // The table of a card, written whole.
 #![tactic(auto)]
 
-ghost use Rattle.std.specs.Prelude.{◌≡◌, length, map};
+ghost use Rattle.std.specs.Prelude.{◌≡◌, map};
 ghost use Rattle.writer.specs.Nodes.{node_is};
-ghost use Rattle.writer.specs.Pen.{fresh, Wrote, Moved};
+ghost use Rattle.writer.specs.Writing.{Writes};
 ghost use Rattle.query.specs.Form.{Score, question_of};
 ghost use Rattle.query.specs.Formulas.{end_size};
 ghost use Rattle.card.specs.Conditions.{conditions_of};
@@ -17,7 +17,7 @@ use arithmetic::Modulus;
 use card::{Card, MOST_CONDITIONS, Question};
 use condition::put_condition;
 use powers::OrderTables;
-use writer::{Gate, Node, Pen, Slots, Written};
+use writer::{Gate, Node, Pen, Slots, Writer, Written};
 
 // The prime of a card.
 pub fn modulus_of(card: Card<'_>) -> Modulus
@@ -33,17 +33,15 @@ pub fn modulus_of(card: Card<'_>) -> Modulus
 fn put_conditions(
     card: Card<'_>,
     step: u16,
-    table: &mut [u8],
+    out: &mut Writer,
     tables: &OrderTables,
     outputs: &mut [Node],
-) -> Pen
-    requires { Writable card.bytes.now card.head step table.old tables.now outputs.old }
-    ensures wrote { Wrote table.old fresh (drafted card.entry.head.prime step (conditions_of card.entry.bytes.now)).gates table.new result }
-    ensures moves { Moved fresh (length (drafted card.entry.head.prime step (conditions_of card.entry.bytes.now)).gates) result }
+)
+    requires { Writable card.bytes.now card.head step out.old tables.now outputs.old }
+    ensures wrote { Writes out.old (drafted card.entry.head.prime step (conditions_of card.entry.bytes.now)).gates out.new }
     ensures outputs { map node_is outputs.new ≡ (drafted card.entry.head.prime step (conditions_of card.entry.bytes.now)).outputs }
 {
     let m = modulus_of(card);
-    let mut pen = Pen::new();
     for (k, condition) in card.conditions().enumerate() {
         let relation = condition.relation;
         let slots = Slots {
@@ -51,11 +49,8 @@ fn put_conditions(
             left: u16::from(condition.left),
             right: u16::from(condition.right),
         };
-        let written = put_condition(table, pen, m, step, relation, slots, tables);
-        outputs[k] = written.node;
-        pen = written.pen;
+        outputs[k] = put_condition(out, m, step, relation, slots, tables);
     }
-    pen
 }
 
 // Whether one of the conditions has an order relation.
@@ -78,39 +73,37 @@ pub fn prepare_order(card: Card<'_>) -> OrderTables
 }
 
 // The sum of the conditions' outputs, each scaled by the weight of its condition.
-fn put_score(card: Card<'_>, table: &mut [u8], pen: Pen, outputs: &[Node]) -> Written
-    requires endable { Endable card.head (end_size Score card.head.count) table.old pen outputs.now }
+fn put_score(card: Card<'_>, out: &mut Writer, outputs: &[Node]) -> Node
+    requires endable { Endable card.head (end_size Score card.head.count) out.old outputs.now }
     requires score { question_of (form_is card.head.form) ≡ Score }
-    ensures wrote { Wrote table.old pen (end_from Score card.entry.bytes.now card.entry.head pen outputs.now).gates table.new result.pen }
-    ensures output { node_is result.node ≡ (end_from Score card.entry.bytes.now card.entry.head pen outputs.now).output }
+    ensures wrote { Writes out.old (end_from Score card.entry.bytes.now card.entry.head out.old.pen outputs.now).gates out.new }
+    ensures output { node_is result ≡ (end_from Score card.entry.bytes.now card.entry.head out.old.pen outputs.now).output }
 {
     let p = card.head.prime;
     let first = outputs[0];
     let b = constants::bits_of(u16::from(card.weight(0)), p);
-    let mut sum = Written {
-        pen: writer::put_gate(table, pen, Gate::Scale(first.gate, b)),
-        node: Node {
-            gate: pen.next,
-            depth: first.depth,
-        },
+    let mut sum = Node {
+        gate: out.pen.next,
+        depth: first.depth,
     };
+    out.put(Gate::Scale(first.gate, b));
     for k in 1..outputs.len() {
         let b = constants::bits_of(u16::from(card.weight(k)), p);
-        sum = writer::add_term(table, sum.pen, sum.node, outputs[k], b);
+        sum = out.add_term(sum, outputs[k], b);
     }
     sum
 }
 
 // What ends the table of a card: the product tree over the conditions' outputs, which uses them up, or their score.
-fn put_end(card: Card<'_>, table: &mut [u8], pen: Pen, outputs: &mut [Node]) -> Written
-    requires endable { Endable card.head (end_size (question_of (form_is card.head.form)) card.head.count) table.old pen outputs.old }
+fn put_end(card: Card<'_>, out: &mut Writer, outputs: &mut [Node]) -> Node
+    requires endable { Endable card.head (end_size (question_of (form_is card.head.form)) card.head.count) out.old outputs.old }
     requires shallow { Shallow card.head.count (map node_is outputs.old) }
-    ensures wrote { Wrote table.old pen (end_from (question_of (form_is card.entry.head.form)) card.entry.bytes.now card.entry.head pen outputs.old).gates table.new result.pen }
-    ensures output { node_is result.node ≡ (end_from (question_of (form_is card.entry.head.form)) card.entry.bytes.now card.entry.head pen outputs.old).output }
+    ensures wrote { Writes out.old (end_from (question_of (form_is card.entry.head.form)) card.entry.bytes.now card.entry.head out.old.pen outputs.old).gates out.new }
+    ensures output { node_is result ≡ (end_from (question_of (form_is card.entry.head.form)) card.entry.bytes.now card.entry.head out.old.pen outputs.old).output }
 {
     match card.head.form.question() {
-        Question::YesOrNo => tree::put_product_tree(table, pen, outputs),
-        Question::Score => put_score(card, table, pen, outputs),
+        Question::YesOrNo => tree::put_product_tree(out, outputs),
+        Question::Score => put_score(card, out, outputs),
     }
 }
 
@@ -135,6 +128,11 @@ pub fn write_table(
         card.slot_counts(),
         count,
     );
-    let pen = put_conditions(card, step, table, tables, outputs);
-    put_end(card, table, pen, outputs)
+    let mut out = Writer {
+        table,
+        pen: Pen::new(),
+    };
+    put_conditions(card, step, &mut out, tables, outputs);
+    let node = put_end(card, &mut out, outputs);
+    Written { pen: out.pen, node }
 }

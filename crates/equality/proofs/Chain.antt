@@ -11,13 +11,12 @@ use Rattle.comparison.specs.EqualityDigit.{Collected, nothing, power, chain, zer
 use Rattle.comparison.proofs.Bits.{bits_cons, bits_length, ones_some}
 use Rattle.comparison.proofs.EqualityDigit.{start_length}
 use Rattle.writer.specs.declared.Node.{Node}
-use Rattle.writer.specs.declared.Pen.{Pen}
-use Rattle.writer.specs.declared.Written.{Written}
+use Rattle.writer.specs.declared.Writer.{Writer}
 use Rattle.writer.specs.Nodes.{node_is}
-use Rattle.writer.specs.Pen.{Wrote}
 use Rattle.equality.specs.Collecting.{product_at, collected_by}
-use Rattle.writer.specs.Remains.{Remains}
-use Rattle.writer.proofs.Remains.{remains_as, remains_then}
+use Rattle.writer.specs.Leaves.{Leaves}
+use Rattle.writer.specs.Writing.{HasRoom, Writes}
+use Rattle.writer.proofs.Leaves.{leaves_as, leaves_then, leaves_room}
 
 -- bit 0 of an even number
 pub chain_start : (t k z : ℕ) → 1 ≤ t → t % 2 ≡ 0 → zero_chain (bits t) k z ≡ chain (bits (t / 2)) k z nothing
@@ -72,67 +71,66 @@ pub chain_size : (t k z : ℕ) → 1 ≤ t → length (zero_chain (bits t) k z) 
 unfolding ones
 chain_size t k z some = omega (arith, start_length (bits t) k z (ones_some t some), bits_length t some)
 
--- ---- what remains after a bit
+-- ---- what is left after a bit
 
-module _ {table : List ℕ} {pen : Pen} {all : List Gate} where
+module _ {w : Writer} {all : List Gate} {w₁ w₂ : Writer} (rest : ℕ) where
   -- nothing is collected yet: the running power is squared
-  module _ {table₁ table₂ : List ℕ} (rest : ℕ) (running square : Written)
-      (squared : Wrote table₁ running.pen (Mul running.node.gate running.node.gate ∷ []) table₂ square.pen)
-      (node : node_is square.node ≡ times running.pen.next (node_is running.node) (node_is running.node))
-      (remains : Remains table pen all table₁ running.pen (chain (bits rest) running.pen.next running.node.gate nothing)) where
-    here : running.pen.next ≡ square.node.gate
+  module _ (running square : Node)
+      (squared : Writes w₁ (Mul running.gate running.gate ∷ []) w₂)
+      (node : node_is square ≡ times w₁.pen.next (node_is running) (node_is running))
+      (leaves : Leaves w all w₁ (chain (bits rest) w₁.pen.next running.gate nothing)) where
+    here : w₁.pen.next ≡ square.gate
     here = sym (ap (λ (n : segment.Node). n.gate) node)
 
-    next : running.pen.next + 1 ≡ square.pen.next
-    next = sym squared.number
+    next : w₁.pen.next + 1 ≡ w₂.pen.next
+    next = sym squared.moved.0
 
-    pub after_unset : 1 ≤ rest → rest % 2 ≡ 0
-        → Remains table pen all table₂ square.pen (chain (bits (rest / 2)) square.pen.next square.node.gate nothing)
+    pub after_unset : 1 ≤ rest → rest % 2 ≡ 0 → Leaves w all w₂ (chain (bits (rest / 2)) w₂.pen.next square.gate nothing)
     after_unset some even =
-        remains_as (ap₂ (λ (k r : ℕ). chain (bits (rest / 2)) k r nothing) next here)
-        (remains_then (remains_as (chain_unset rest _ _ some even) remains) squared)
+        leaves_as (ap₂ (λ (k r : ℕ). chain (bits (rest / 2)) k r nothing) next here)
+        (leaves_then (leaves_as (chain_unset rest _ _ some even) leaves) squared)
 
-    pub after_set : rest % 2 ≡ 1
-        → Remains table pen all table₂ square.pen (chain (bits (rest / 2)) square.pen.next square.node.gate (power square.node.gate))
+    pub after_set : rest % 2 ≡ 1 → Leaves w all w₂ (chain (bits (rest / 2)) w₂.pen.next square.gate (power square.gate))
     after_set odd =
-        remains_as (ap₂ (λ (k r : ℕ). chain (bits (rest / 2)) k r (power r)) next here)
-        (remains_then (remains_as (chain_set rest _ _ odd) remains) squared)
+        leaves_as (ap₂ (λ (k r : ℕ). chain (bits (rest / 2)) k r (power r)) next here)
+        (leaves_then (leaves_as (chain_set rest _ _ odd) leaves) squared)
 
   -- a power is collected: the running power is squared, and the collected one multiplied by it at a set bit
-  module _ {table₁ table₂ : List ℕ} (rest : ℕ) (some : 1 ≤ rest) (running : Node) (collected square : Written)
-      (squared : Wrote table₁ collected.pen (Mul running.gate running.gate ∷ []) table₂ square.pen)
-      (node : node_is square.node ≡ times collected.pen.next (node_is running) (node_is running))
-      (remains : Remains table pen all table₁ collected.pen
-      (chain (bits rest) collected.pen.next running.gate (power collected.node.gate))) where
+  module _ (some : 1 ≤ rest) (running collected square : Node)
+      (squared : Writes w₁ (Mul running.gate running.gate ∷ []) w₂)
+      (node : node_is square ≡ times w₁.pen.next (node_is running) (node_is running))
+      (leaves : Leaves w all w₁ (chain (bits rest) w₁.pen.next running.gate (power collected.gate))) where
     abbrev b : Bool
     b = eqb (rest % 2) 1
 
     -- the chain after a square at gate r, where gate number k is the next
     abbrev onward : ℕ → ℕ → List Gate
-    onward k r = chain (bits (rest / 2)) (k + bit b) r (power (collected_by b k (node_is collected.node) (node_is square.node)).gate)
+    onward k r = chain (bits (rest / 2)) (k + bit b) r (power (collected_by b k (node_is collected) (node_is square)).gate)
 
     abbrev later : ℕ → ℕ → List Gate
-    later k r = product_at b collected.node.gate r ++ onward k r
+    later k r = product_at b collected.gate r ++ onward k r
 
-    after_square : Remains table pen all table₂ square.pen (later square.pen.next square.node.gate)
+    after_square : Leaves w all w₂ (later w₂.pen.next square.gate)
     after_square =
-        let here : collected.pen.next ≡ square.node.gate = sym (ap (λ (n : segment.Node). n.gate) node) in
-        let next : collected.pen.next + 1 ≡ square.pen.next = sym squared.number in
-        remains_as (ap₂ later next here)
-        (remains_then (remains_as (chain_later rest _ _ (node_is collected.node) (node_is square.node) some) remains) squared)
+        let here : w₁.pen.next ≡ square.gate = sym (ap (λ (n : segment.Node). n.gate) node) in
+        let next : w₁.pen.next + 1 ≡ w₂.pen.next = sym squared.moved.0 in
+        leaves_as (ap₂ later next here)
+        (leaves_then (leaves_as (chain_later rest _ _ (node_is collected) (node_is square) some) leaves) squared)
 
-    -- the product is one of the gates that remain
-    pub product_room : square.pen.next + bit b ≤ pen.next + length all
-    product_room =
-        let g = collected.node.gate in
-        let r = square.node.gate in
-        omega (arith, after_square.number, length-append (product_at b g r) (onward square.pen.next r), product_length b g r)
+    -- the product is one of the gates that are left
+    pub product_room : HasRoom w (length all) → HasRoom w₂ (bit b)
+    product_room room =
+        let g = collected.gate in
+        let r = square.gate in
+        leaves_room (bit b) room after_square
+        (omega (arith, length-append (product_at b g r) (onward w₂.pen.next r), product_length b g r))
 
-    pub after_later : {table₃ : List ℕ} (set : Written)
-        → Wrote table₂ square.pen (product_at b collected.node.gate square.node.gate) table₃ set.pen
-        → node_is set.node ≡ collected_by b square.pen.next (node_is collected.node) (node_is square.node)
-        → Remains table pen all table₃ set.pen (chain (bits (rest / 2)) set.pen.next square.node.gate (power set.node.gate))
-    after_later set wrote is =
+    pub after_later : {w₃ : Writer} (set : Node)
+        → Writes w₂ (product_at b collected.gate square.gate) w₃
+        → node_is set ≡ collected_by b w₂.pen.next (node_is collected) (node_is square)
+        → Leaves w all w₃ (chain (bits (rest / 2)) w₃.pen.next square.gate (power set.gate))
+    after_later {w₃} set wrote is =
         let gate = sym (ap (λ (n : segment.Node). n.gate) is) in
-        let next : square.pen.next + bit b ≡ set.pen.next = sym (wrote.number ∙ ap (λ (n : ℕ). square.pen.next + n) (product_length b _ _)) in
-        remains_as (ap₂ (λ (k g : ℕ). chain (bits (rest / 2)) k square.node.gate (power g)) next gate) (remains_then after_square wrote)
+        let next : w₂.pen.next + bit b ≡ w₃.pen.next
+        = sym (wrote.moved.0 ∙ ap (λ (n : ℕ). w₂.pen.next + n) (product_length b collected.gate square.gate)) in
+        leaves_as (ap₂ (λ (k g : ℕ). chain (bits (rest / 2)) k square.gate (power g)) next gate) (leaves_then after_square wrote)

@@ -1,7 +1,7 @@
 -- The depths of the powers: the running power z^(2^j) is j deep, the collected power z^e is clog e deep.
 -- Assumes nothing.
 use Rattle.std.proofs.Common.{◌≡◌, sym, ap, subst, ◌∙◌, Bool, true, false, ℕ, zero, suc, ◌+◌, ◌*◌, ◌/◌, ◌%◌, ◌^◌, ◌≤◌, ◌<◌, arith, le_refl, eqb, pow_pos}
-use native.Mathlib.Nat.{max-eq_right, pow-succ'}
+use Rattle.std.proofs.Math.Nat.{max-eq_right, pow-succ'}
 use Rattle.field.specs.Bit.{bit}
 use Rattle.field.specs.Logarithm.{clog}
 use Rattle.field.proofs.Logarithm.{clog_is_ceiling, clog_power}

@@ -1,6 +1,6 @@
 -- One digit of an equality condition, and what remains of its digits and of their outputs after it.
 -- Assumes nothing.
-use Rattle.std.proofs.Common.{◌≡◌, sym, ap, ap₂, subst, ◌∙◌, false, List, [], ◌∷◌, ◌++◌, map, append_assoc, append-nil, ℕ, suc, ◌+◌, ◌-◌, ◌≤◌, ◌<◌, add-one, length, set, length-append, arith}
+use Rattle.std.proofs.Common.{◌≡◌, sym, ap, ap₂, ◌∙◌, false, List, [], ◌∷◌, ◌++◌, map, append_assoc, append-nil, ℕ, suc, ◌+◌, ◌-◌, ◌≤◌, ◌<◌, add-one, length, set, length-append, arith}
 use Rattle.std.proofs.lemmas.List.{take_all}
 use Rattle.circuit.specs.Gate.{Gate, Left, Right}
 use Rattle.circuit.specs.Segment as segment
@@ -14,27 +14,27 @@ use Rattle.comparison.specs.Writing.{zero_of, equality_factors}
 use Rattle.comparison.proofs.Digits.{digits_cons}
 use Rattle.comparison.proofs.EqualityDigit.{zero_length}
 use Rattle.writer.specs.declared.Node.{Node}
-use Rattle.writer.specs.declared.Pen.{Pen}
 use Rattle.writer.specs.declared.Slots.{Slots}
+use Rattle.writer.specs.declared.Writer.{Writer}
 use Rattle.writer.specs.Nodes.{node_is}
-use Rattle.writer.specs.Pen.{Wrote}
+use Rattle.writer.specs.Leaves.{Leaves}
+use Rattle.writer.specs.Writing.{Writes}
 use Rattle.tree.proofs.Factors.{first, added}
-use Rattle.writer.proofs.Writing.{then}
-use Rattle.writer.specs.Remains.{Remains}
+use Rattle.writer.proofs.Leaves.{leaves_as, leaves_then}
+use Rattle.writer.proofs.Writing.{same_writes, follows}
 use Rattle.equality.specs.Slots.{equality_condition}
-use Rattle.writer.proofs.Remains.{remains_as, remains_then}
 
 -- ---- one digit
 
 -- the zero test follows the difference
-pub digit_wrote : {table table₁ table₂ : List ℕ} {pen pen₁ pen₂ : Pen} (p left right : ℕ)
-    → Wrote table pen (Left left ∷ Right right ∷ minus false pen.next ∷ []) table₁ pen₁
-    → Wrote table₁ pen₁ (zero_chain (bits (p - 1)) pen₁.next (pen₁.next - 1)) table₂ pen₂
-    → Wrote table pen (difference Equal left right pen.next ++ zero_gates p pen.next) table₂ pen₂
-digit_wrote {table₁ = table₁} {table₂ = table₂} {pen = pen} {pen₁ = pen₁} {pen₂ = pen₂} p left right a b =
-    let next : pen₁.next ≡ suc (z_gate pen.next) = omega (arith, a.number) in
-    let z : pen₁.next - 1 ≡ z_gate pen.next = omega (arith, a.number) in
-    then a (subst (λ (gs : List Gate). Wrote table₁ pen₁ gs table₂ pen₂) (ap₂ (zero_chain (bits (p - 1))) next z) b)
+pub digit_wrote : {w w₁ w₂ : Writer} (p left right : ℕ)
+    → Writes w (Left left ∷ Right right ∷ minus false w.pen.next ∷ []) w₁
+    → Writes w₁ (zero_chain (bits (p - 1)) w₁.pen.next (w₁.pen.next - 1)) w₂
+    → Writes w (difference Equal left right w.pen.next ++ zero_gates p w.pen.next) w₂
+digit_wrote {w} {w₁} p left right a b =
+    let next : w₁.pen.next ≡ suc (z_gate w.pen.next) = omega (arith, a.moved.0) in
+    let z : w₁.pen.next - 1 ≡ z_gate w.pen.next = omega (arith, a.moved.0) in
+    follows a (same_writes (ap₂ (zero_chain (bits (p - 1))) next z) b)
 
 module _ (p : ℕ) (slots : Slots) (k n j : ℕ) (l : j < n) where
   abbrev later_digits : List Gate
@@ -48,12 +48,12 @@ module _ (p : ℕ) (slots : Slots) (k n j : ℕ) (l : j < n) where
       → equality_digits p (equality_condition slots) k (n - j) j ≡ digit next ++ later_digits
   digits_from_lem next e = rw e (digits_cons (equality_digit p (equality_condition slots)) (equality_start p k) n j l)
 
-  pub after_digit : {table table₁ table₂ : List ℕ} {pen pen₁ pen₂ : Pen} {all : List Gate}
-      → pen₁.next ≡ equality_start p k j
-      → Remains table pen all table₁ pen₁ (equality_digits p (equality_condition slots) k (n - j) j)
-      → Wrote table₁ pen₁ (digit pen₁.next) table₂ pen₂
-      → Remains table pen all table₂ pen₂ later_digits
-  after_digit {pen₁ = pen₁} e r w = remains_then {gs = digit pen₁.next} (remains_as (digits_from_lem pen₁.next e) r) w
+  pub after_digit : {w w₁ w₂ : Writer} {all : List Gate}
+      → w₁.pen.next ≡ equality_start p k j
+      → Leaves w all w₁ (equality_digits p (equality_condition slots) k (n - j) j)
+      → Writes w₁ (digit w₁.pen.next) w₂
+      → Leaves w all w₂ later_digits
+  after_digit {w₁ = w₁} e l wrote = leaves_then {gs = digit w₁.pen.next} (leaves_as (digits_from_lem w₁.pen.next e) l) wrote
 
   -- they have room for it
   pub digit_room : (next : ℕ) → 2 ≤ p → next ≡ equality_start p k j

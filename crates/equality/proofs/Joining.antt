@@ -13,11 +13,11 @@ use Rattle.circuit.proofs.ProductTree.{multiply_length}
 use Rattle.comparison.specs.Digits.{equality_digits}
 use Rattle.comparison.specs.Tests.{digit_depth}
 use Rattle.comparison.specs.Writing.{equality_factors, equality_joining, equality_segment}
-use Rattle.writer.specs.declared.Pen.{Pen}
 use Rattle.writer.specs.declared.Slots.{Slots}
+use Rattle.writer.specs.declared.Writer.{Writer}
 use Rattle.tree.specs.Factors.{Shallow}
-use Rattle.writer.specs.Pen.{Wrote}
-use Rattle.writer.proofs.Writing.{same_gates, then}
+use Rattle.writer.specs.Writing.{Writes}
+use Rattle.writer.proofs.Writing.{same_writes, follows}
 use Rattle.equality.specs.Slots.{equality_condition}
 
 -- ---- depths
@@ -67,10 +67,10 @@ module _ (p : ℕ) (slots : Slots) (k : ℕ) where
     whole_output next e = ap (λ (s : Segment). s.output) (ap₂ product_tree e are)
 
 -- the tree follows the digits
-pub whole_wrote : {table table₁ table₂ : List ℕ} {pen pen₁ pen₂ : Pen} (p : ℕ) (slots : Slots) {factors : List Node}
-    → factors ≡ outputs p slots pen.next
-    → Wrote table pen (digits p slots pen.next) table₁ pen₁
-    → Wrote table₁ pen₁ (product_tree pen₁.next factors).gates table₂ pen₂
-    → Wrote table pen (equality_segment p (equality_condition slots) pen.next).gates table₂ pen₂
+pub whole_wrote : {w w₁ w₂ : Writer} (p : ℕ) (slots : Slots) {factors : List Node}
+    → factors ≡ outputs p slots w.pen.next
+    → Writes w (digits p slots w.pen.next) w₁
+    → Writes w₁ (product_tree w₁.pen.next factors).gates w₂
+    → Writes w (equality_segment p (equality_condition slots) w.pen.next).gates w₂
 unfolding equality_segment
-whole_wrote p slots are a b = then a (same_gates (ap (λ (s : Segment). s.gates) (ap₂ product_tree a.number are)) b)
+whole_wrote p slots are a b = follows a (same_writes (ap (λ (s : Segment). s.gates) (ap₂ product_tree a.moved.0 are)) b)

@@ -5,7 +5,7 @@ use Rattle.circuit.specs.Gate.{Gate, Mul}
 use Rattle.circuit.specs.Segment.{Node, times}
 use Rattle.comparison.specs.Bits.{bits}
 use Rattle.comparison.specs.EqualityDigit.{power, chain}
-use Rattle.writer.specs.declared.Written.{Written}
+use Rattle.writer.specs.declared.Node as node
 
 -- the gate written where a collected power exists: one at a set bit
 abbrev pub product_at : Bool → ℕ → ℕ → List Gate
@@ -17,6 +17,6 @@ abbrev pub collected_by : Bool → ℕ → Node → Node → Node
 collected_by true k collected running = times k collected running
 collected_by false k collected running = collected
 
--- what follows the first set bit, where the running power becomes the collected one: the bits above it as a number
-abbrev pub later_bits : Written → ℕ → List Gate
-later_bits first later = chain (bits later) first.pen.next first.node.gate (power first.node.gate)
+-- what follows the first set bit from gate number k on, where the running power becomes the collected one: the bits above it as a number
+abbrev pub later_bits : ℕ → node.Node → ℕ → List Gate
+later_bits k first later = chain (bits later) k first.gate (power first.gate)

@@ -20,7 +20,7 @@ use powers::OrderTables;
 use records::{LEAST_WEIGHT, MOST_WEIGHT, RECORD, SlotCounts};
 use relations::Relation;
 use state::BuildState;
-use writer::Slots;
+use writer::{Slots, Writer, Written};
 
 // Starts a build afresh, also over an open one: the head of a table of no gates, or 3, 4 or 11.
 pub fn begin(state: &mut BuildState, prime: u8, weight: u8, table: &mut [u8]) -> Result<(), Refusal>
@@ -58,8 +58,13 @@ fn write_tree(state: &BuildState, table: &mut [u8]) -> Report
     );
     let count = usize::from(state.count);
     let mut outputs = state.outputs;
-    let written = tree::put_product_tree(table, state.pen(), &mut outputs[..count]);
-    builder::report_of(written, state.weight)
+    let mut out = Writer {
+        table,
+        pen: state.pen(),
+    };
+    let node = tree::put_product_tree(&mut out, &mut outputs[..count]);
+    let pen = out.pen;
+    builder::report_of(Written { pen, node }, state.weight)
 }
 
 // Ends the table with the product tree over the conditions' outputs and closes the build, or 31 or 11.
@@ -124,8 +129,13 @@ fn write_condition(
         SlotCounts::Both(state.slots + digits),
         state.gates + size,
     );
-    let written = condition::put_condition(table, state.pen(), m, 0, relation, slots, &tables);
-    state.grow(digits, written);
+    let mut out = Writer {
+        table,
+        pen: state.pen(),
+    };
+    let node = condition::put_condition(&mut out, m, 0, relation, slots, &tables);
+    let pen = out.pen;
+    state.grow(digits, Written { pen, node });
 }
 
 // Adds a condition of a record that was read, or 10 or 11.

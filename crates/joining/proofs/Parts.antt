@@ -8,10 +8,10 @@ use Rattle.circuit.specs.Segment.{Node, times}
 use Rattle.circuit.specs.Tree.{Tree}
 use Rattle.comparison.specs.Joining.{halves, join_run, join_lowest, run_from, whole_run, less_join, joined_less}
 use Rattle.comparison.proofs.Halves.{halves_run}
-use Rattle.writer.specs.declared.Pen.{Pen}
 use Rattle.writer.specs.declared.Tests.{Tests}
+use Rattle.writer.specs.declared.Writer.{Writer}
 use Rattle.writer.specs.Nodes.{node_is}
-use Rattle.writer.specs.Pen.{Wrote}
+use Rattle.writer.specs.Writing.{Writes}
 use Rattle.joining.specs.Listed.{tests_at, less_at, equal_at, listed_run, listed_whole}
 use Rattle.joining.proofs.Halving.{halves_leaf, halves_join, joining_split}
 use Rattle.joining.proofs.Joins.{run_more, lowest_more}
@@ -90,31 +90,31 @@ module _ {tests below above : List Tests} (halved : Halved tests below above) wh
   whole_split k = rw ((below_run k).1, length_above) (joining_split (less_at tests) (equal_at tests) (length tests) k halved.more)
 
   -- both parts are written, and then the join
-  module _ {t t₁ t₂ t₃ : List ℕ} {pen pen₁ pen₂ pen₃ : Pen} {l h f s : Node} where
-    pub joined_run : {e b : Node} → let low = listed_run below pen.next in
-        let high = listed_run above pen₁.next in
-        let run = listed_run tests pen.next in
-        let next = pen₂.next in
-        Wrote t pen low.gates t₁ pen₁ → l ≡ low.less → e ≡ low.equal
-        → Wrote t₁ pen₁ high.gates t₂ pen₂ → h ≡ high.less → f ≡ high.equal
-        → Wrote t₂ pen₂ (less_join next l h f ++ (Mul e.gate f.gate ∷ [])) t₃ pen₃
+  module _ {w w₁ w₂ w₃ : Writer} {l h f s : Node} where
+    pub joined_run : {e b : Node} → let low = listed_run below w.pen.next in
+        let high = listed_run above w₁.pen.next in
+        let run = listed_run tests w.pen.next in
+        let next = w₂.pen.next in
+        Writes w low.gates w₁ → l ≡ low.less → e ≡ low.equal
+        → Writes w₁ high.gates w₂ → h ≡ high.less → f ≡ high.equal
+        → Writes w₂ (less_join next l h f ++ (Mul e.gate f.gate ∷ [])) w₃
         → s ≡ joined_less next l h f → b ≡ times (suc (suc next)) e f
-        → Wrote t pen run.gates t₃ pen₃ × (s ≡ run.less) × (b ≡ run.equal)
+        → Writes w run.gates w₃ × (s ≡ run.less) × (b ≡ run.equal)
     joined_run lows l_is e_is highs h_is f_is joins s_is b_is =
-        let low = (below_run pen.next).0 in
-        let high = above_run (0 + half) (omega arith) pen₁.next in
+        let low = (below_run w.pen.next).0 in
+        let high = above_run (0 + half) (omega arith) w₁.pen.next in
         run_more (less_at tests) (equal_at tests) 0 (length tests) halved.more (rw low at lows) (rw low at l_is) (rw low at e_is)
         (rw high at highs) (rw high at h_is) (rw high at f_is) joins s_is b_is
 
-    pub joined_whole : let low = listed_whole below pen.next in
-        let high = listed_run above pen₁.next in
-        let run = listed_whole tests pen.next in
-        Wrote t pen low.gates t₁ pen₁ → l ≡ low.output
-        → Wrote t₁ pen₁ high.gates t₂ pen₂ → h ≡ high.less → f ≡ high.equal
-        → Wrote t₂ pen₂ (less_join pen₂.next l h f) t₃ pen₃ → s ≡ joined_less pen₂.next l h f
-        → Wrote t pen run.gates t₃ pen₃ × (s ≡ run.output)
+    pub joined_whole : let low = listed_whole below w.pen.next in
+        let high = listed_run above w₁.pen.next in
+        let run = listed_whole tests w.pen.next in
+        Writes w low.gates w₁ → l ≡ low.output
+        → Writes w₁ high.gates w₂ → h ≡ high.less → f ≡ high.equal
+        → Writes w₂ (less_join w₂.pen.next l h f) w₃ → s ≡ joined_less w₂.pen.next l h f
+        → Writes w run.gates w₃ × (s ≡ run.output)
     joined_whole lows l_is highs h_is f_is sums s_is =
-        let low = (below_run pen.next).1 in
-        let high = above_run half refl pen₁.next in
+        let low = (below_run w.pen.next).1 in
+        let high = above_run half refl w₁.pen.next in
         lowest_more (less_at tests) (equal_at tests) (length tests) halved.more (rw low at lows) (rw low at l_is)
         (rw high at highs) (rw high at h_is) (rw high at f_is) sums s_is

@@ -1,6 +1,6 @@
 -- One order digit: its gates are the difference and its tests, and document 01's tests are the powers, the terms and E, and how many they are.
 -- Assumes nothing.
-use Rattle.std.proofs.Common.{◌≡◌, refl, sym, ap, Bool, true, false, List, [], ◌∷◌, ◌++◌, ℕ, ◌+◌, ◌-◌, arith, length, length-append}
+use Rattle.std.proofs.Common.{◌≡◌, refl, sym, ap, Bool, true, false, [], ◌∷◌, ◌++◌, ℕ, ◌+◌, ◌-◌, arith, length, length-append}
 use Rattle.field.specs.Polynomials.{order_exponents}
 use Rattle.circuit.specs.Gate.{Left, Right, Flip}
 use Rattle.comparison.specs.Difference.{minus, z_gate}
@@ -9,11 +9,11 @@ use Rattle.comparison.specs.OrderDigit.{power_gate, powers, less_count, power_co
 use Rattle.comparison.specs.Relation.{is_backward}
 use Rattle.comparison.specs.Tests.{Tests, base_tests}
 use Rattle.comparison.proofs.OrderDigit.{less_length}
-use Rattle.writer.specs.declared.Pen.{Pen}
 use Rattle.writer.specs.declared.Slots.{Slots}
+use Rattle.writer.specs.declared.Writer.{Writer}
 use Rattle.writer.specs.Modulus.{Modulus}
-use Rattle.writer.specs.Pen.{Wrote}
-use Rattle.writer.proofs.Writing.{same_gates, then}
+use Rattle.writer.specs.Writing.{Writes}
+use Rattle.writer.proofs.Writing.{same_writes, follows}
 use Rattle.order.specs.Slots.{order_relation, order_condition}
 use Rattle.order.proofs.Terms.{place_from}
 
@@ -33,16 +33,14 @@ module _ (p j k : ℕ) where
       omega (arith, length-append (less_gates p k) (unless_lowest j (equal_gates p k)), less_length p odd.0 odd.1 k)
 
   -- powers, terms and E, one after the other
-  pub tests_wrote : {table table₁ table₂ table₃ : List ℕ} {pen pen₁ pen₂ pen₃ : Pen} → pen.next ≡ k + 3
-      → Wrote table pen (powers p (k + 2)) table₁ pen₁ → pen₁.next ≡ pen.next + power_count p
-      → Wrote table₁ pen₁ (terms p (k + 2) pen₁.next (order_exponents p)) table₂ pen₂
-      → Wrote table₂ pen₂ (unless_lowest j (equal_gates p k)) table₃ pen₃
-      → Wrote table pen (order_tests (base_tests p) j k) table₃ pen₃
-  tests_wrote {pen₁ = pen₁} here raised more summed ended =
+  pub tests_wrote : {w w₁ w₂ w₃ : Writer} → w.pen.next ≡ k + 3 → Writes w (powers p (k + 2)) w₁ → w₁.pen.next ≡ w.pen.next + power_count p
+      → Writes w₁ (terms p (k + 2) w₁.pen.next (order_exponents p)) w₂ → Writes w₂ (unless_lowest j (equal_gates p k)) w₃
+      → Writes w (order_tests (base_tests p) j k) w₃
+  tests_wrote {w₁ = w₁} here raised more summed ended =
       let z : k + 2 ≡ z_gate k = omega arith in
-      let start : pen₁.next ≡ term_start p k = omega arith in
-      let sum = same_gates (ap (λ (next : ℕ). terms p (z_gate k) next (order_exponents p)) start) (rw z at summed) in
-      then (then (rw z at raised) sum) ended
+      let start : w₁.pen.next ≡ term_start p k = omega arith in
+      let sum = same_writes (ap (λ (next : ℕ). terms p (z_gate k) next (order_exponents p)) start) (rw z at summed) in
+      follows (follows (rw z at raised) sum) ended
 
 -- ---- the digit
 
@@ -58,8 +56,7 @@ module _ (t : Tests) (backward : Bool) (slots : Slots) (j : ℕ) where
   digit_is k = rw (backward_is backward)
 
   -- difference and tests, one after the other
-  pub digit_wrote : {table table₁ table₂ : List ℕ} {pen pen₁ pen₂ : Pen}
-      → Wrote table pen (Left (slots.left + j) ∷ Right (slots.right + j) ∷ minus backward pen.next ∷ []) table₁ pen₁
-      → Wrote table₁ pen₁ (order_tests t j pen.next) table₂ pen₂
-      → Wrote table pen (order_digit t (order_condition backward slots) j pen.next) table₂ pen₂
-  digit_wrote {pen = pen} differed tested = same_gates (sym (digit_is pen.next)) (then differed tested)
+  pub digit_wrote : {w w₁ w₂ : Writer}
+      → Writes w (Left (slots.left + j) ∷ Right (slots.right + j) ∷ minus backward w.pen.next ∷ []) w₁
+      → Writes w₁ (order_tests t j w.pen.next) w₂ → Writes w (order_digit t (order_condition backward slots) j w.pen.next) w₂
+  digit_wrote {w = w} differed tested = same_writes (sym (digit_is w.pen.next)) (follows differed tested)

@@ -2,7 +2,7 @@
 -- and the list of tests holds one digit more.
 -- Assumes nothing.
 use Rattle.std.proofs.Common.{◌≡◌, sym, ap, ◌∙◌, List, ℕ, ◌+◌, ◌-◌, ◌≤◌, ◌<◌, arith, add-one, length, length-append, set, get_or-set_same, get_or-set_other}
-use native.Mathlib.Decide.{dec_lt}
+use Rattle.std.proofs.Math.Decide.{dec_lt}
 use Rattle.circuit.specs.Segment.{Node}
 use Rattle.comparison.specs.Condition.{Condition}
 use Rattle.comparison.specs.Digits.{order_digit, order_start, order_digits}

@@ -1,8 +1,8 @@
 -- The terms of an order digit: the constants of a card as they are read, what is left of the terms to write, and the depth of their sum.
 -- Assumes nothing.
 use Rattle.std.proofs.Common.{◌≡◌, ap, ◌∙◌, List, [], ◌∷◌, ◌++◌, map, ℕ, suc, ◌+◌, ◌-◌, ◌*◌, ◌/◌, ◌≤◌, ◌<◌, max, arith, lt_of_not-le, get_or}
-use native.Mathlib.Decide.{dec_le}
-use native.Mathlib.Nat.{max-eq_right}
+use Rattle.std.proofs.Math.Decide.{dec_le}
+use Rattle.std.proofs.Math.Nat.{max-eq_right}
 use Rattle.field.specs.Half.{half}
 use Rattle.field.specs.Logarithm.{clog}
 use Rattle.field.specs.Polynomials.{every_second, order_exponents, order_constant}

@@ -1,7 +1,7 @@
 -- The bits of a coefficient: where they stand among the constants, that they are 0 where it is, and that a SCALE reads them as its constant.
 -- Assumes nothing.
 use Rattle.std.proofs.Common.{◌≡◌, sym, ap, ◌∙◌, List, ℕ, ◌+◌, ◌-◌, ◌*◌, ◌/◌, ◌%◌, ◌≤◌, ◌<◌, arith, lt_of_not-le, ne_eqb, eqb, get_or}
-use native.Mathlib.Decide.{dec_le}
+use Rattle.std.proofs.Math.Decide.{dec_le}
 use Rattle.field.specs.Half.{half}
 use Rattle.field.specs.Polynomials.{order_constant}
 use Rattle.circuit.specs.Constant.{code, sixteen_bits, signed, bits_of}

@@ -1,11 +1,11 @@
 -- A piece as it is written: its terms, or its lower and its upper piece and the last gates; and what it asks of its numbers.
 -- Assumes nothing.
-use Rattle.std.proofs.Common.{◌≡◌, ap, ◌∙◌, List, ◌++◌, ℕ, zero, suc, ◌+◌, ◌-◌, ◌*◌, ◌/◌, ◌^◌, ◌≤◌, ◌<◌, arith, mul-le-mul_right, length, length-append}
-use native.Mathlib.Nat.{pow-succ'}
+use Rattle.std.proofs.Common.{◌≡◌, ap, ◌∙◌, ◌++◌, ℕ, zero, suc, ◌+◌, ◌-◌, ◌*◌, ◌/◌, ◌^◌, ◌≤◌, ◌<◌, arith, mul-le-mul_right, length, length-append}
+use Rattle.std.proofs.Math.Nat.{pow-succ'}
 use Rattle.field.proofs.Logarithm.{clog_is_ceiling, clog_power}
-use Rattle.writer.specs.declared.Pen.{Pen}
-use Rattle.writer.specs.Pen.{Wrote}
-use Rattle.writer.proofs.Writing.{then}
+use Rattle.writer.specs.declared.Writer.{Writer}
+use Rattle.writer.specs.Writing.{Writes}
+use Rattle.writer.proofs.Writing.{follows}
 use Rattle.step.specs.Pieces.{Sum, none, held, Piece, last_gates, last_sum, terms_from, piece}
 use Rattle.step.specs.Powers.{split_node}
 use Rattle.step.proofs.PieceLevel.{AtMost}
@@ -81,14 +81,14 @@ module _ (p step z : ℕ) (c : ℕ → ℕ) where
 
   -- what was written
   pub piece_written : (level o span : ℕ) → Spanned step level o span → 1 ≤ level
-      → {t t₁ t₂ t₃ : List ℕ} {pen pen₁ pen₂ pen₃ : Pen} {l h s : Sum}
+      → {w w₁ w₂ w₃ : Writer} {l h s : Sum}
       → let power = split_node z step (level - 1) in
-      Wrote t pen (low_of level o pen.next).gates t₁ pen₁ → l ≡ (low_of level o pen.next).sum
-      → Wrote t₁ pen₁ (high_of (span / 2) level o pen₁.next).gates t₂ pen₂ → h ≡ (high_of (span / 2) level o pen₁.next).sum
-      → Wrote t₂ pen₂ (last_gates power pen₂.next l h) t₃ pen₃ → s ≡ last_sum power pen₂.next l h
-      → Wrote t pen (piece p step z c level o pen.next).gates t₃ pen₃ × (s ≡ (piece p step z c level o pen.next).sum)
-  piece_written level o span spanned some {pen = pen} lows l highs h last s =
-      rw (piece_split level (span / 2) o pen.next some (half_span step level o span spanned some), ← lows.number, ← highs.number, ← l, ← h) (then lows (then highs last), s)
+      Writes w (low_of level o w.pen.next).gates w₁ → l ≡ (low_of level o w.pen.next).sum
+      → Writes w₁ (high_of (span / 2) level o w₁.pen.next).gates w₂ → h ≡ (high_of (span / 2) level o w₁.pen.next).sum
+      → Writes w₂ (last_gates power w₂.pen.next l h) w₃ → s ≡ last_sum power w₂.pen.next l h
+      → Writes w (piece p step z c level o w.pen.next).gates w₃ × (s ≡ (piece p step z c level o w.pen.next).sum)
+  piece_written level o span spanned some {w = w} lows l highs h last s =
+      rw (piece_split level (span / 2) o w.pen.next some (half_span step level o span spanned some), ← lows.wrote.number, ← highs.wrote.number, ← l, ← h) (follows lows (follows highs last), s)
 
 -- ---- how deep
 

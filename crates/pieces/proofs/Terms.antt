@@ -6,11 +6,11 @@ use Rattle.circuit.specs.Constant.{code, signed, bits_of}
 use Rattle.circuit.specs.Gate.{Gate, Scale}
 use Rattle.comparison.specs.OrderDigit.{low_power}
 use Rattle.writer.specs.declared.Node.{Node}
-use Rattle.writer.specs.declared.Pen.{Pen}
-use Rattle.writer.specs.Pen.{Wrote}
-use Rattle.writer.specs.Remains.{Remains}
-use Rattle.writer.proofs.Writing.{same_gates}
-use Rattle.writer.proofs.Remains.{remains_as, remains_then}
+use Rattle.writer.specs.declared.Writer.{Writer}
+use Rattle.writer.specs.Writing.{Writes}
+use Rattle.writer.proofs.Writing.{same_writes}
+use Rattle.writer.specs.Leaves.{Leaves}
+use Rattle.writer.proofs.Leaves.{leaves_as, leaves_then}
 use Rattle.writer.specs.Modulus.{Modulus}
 use Rattle.step.specs.Coefficient.{coefficient}
 use Rattle.step.specs.Pieces.{Sum, Piece, next_term, terms_from}
@@ -44,32 +44,33 @@ module _ (p step z o : ℕ) where
     same_next k sum = rw (constant, gate, depth, bits_test p modulus (o + e), bits_read p modulus (o + e))
 
     -- there is room for it
-    pub next_room : {table₀ table : List ℕ} {pen₀ pen : Pen} {all : List Gate} (sum : Sum)
-        → Remains table₀ pen₀ all table pen (rest e pen.next sum).gates
-        → pen.next + length (next_by bits power pen.next sum).gates ≤ pen₀.next + length all
-    next_room {pen = pen} sum r =
-        let first = next e pen.next sum in
-        let later = rest (e + 1) (pen.next + length first.gates) first.sum in
-        let split = ap (λ (t : Piece). length t.gates) (rest_cons e pen.next sum l) in
-        let same = ap (λ (t : Piece). length t.gates) (same_next pen.next sum) in
+    pub next_room : {w₀ w : Writer} {all : List Gate} (sum : Sum) → Leaves w₀ all w (rest e w.pen.next sum).gates
+        → w.pen.next + length (next_by bits power w.pen.next sum).gates ≤ w₀.pen.next + length all
+    next_room {w = w} sum r =
+        let k = w.pen.next in
+        let first = next e k sum in
+        let later = rest (e + 1) (k + length first.gates) first.sum in
+        let split = ap (λ (t : Piece). length t.gates) (rest_cons e k sum l) in
+        let same = ap (λ (t : Piece). length t.gates) (same_next k sum) in
         omega (arith, r.number, split, same, length-append first.gates later.gates)
 
     -- and after it the others are left
-    pub next_written : {table₀ table table' : List ℕ} {pen₀ pen pen' : Pen} {all : List Gate} (sum sum' total : Sum)
-        → Remains table₀ pen₀ all table pen (rest e pen.next sum).gates → (rest e pen.next sum).sum ≡ total
-        → Wrote table pen (next_by bits power pen.next sum).gates table' pen' → sum' ≡ (next_by bits power pen.next sum).sum
-        → Remains table₀ pen₀ all table' pen' (rest (e + 1) pen'.next sum').gates × ((rest (e + 1) pen'.next sum').sum ≡ total)
-    next_written {table₀} {table} {table'} {pen₀} {pen} {pen'} {all} sum sum' total r t w s =
-        let first = next e pen.next sum in
-        let same = same_next pen.next sum in
-        let split = rest_cons e pen.next sum l in
-        let written : Wrote table pen first.gates table' pen' = same_gates (ap (λ (x : Piece). x.gates) same) w in
-        let after : pen.next + length first.gates ≡ pen'.next = sym written.number in
+    pub next_written : {w₀ w w' : Writer} {all : List Gate} (sum sum' total : Sum)
+        → Leaves w₀ all w (rest e w.pen.next sum).gates → (rest e w.pen.next sum).sum ≡ total
+        → Writes w (next_by bits power w.pen.next sum).gates w' → sum' ≡ (next_by bits power w.pen.next sum).sum
+        → Leaves w₀ all w' (rest (e + 1) w'.pen.next sum').gates × ((rest (e + 1) w'.pen.next sum').sum ≡ total)
+    next_written {w₀} {w} {w'} {all} sum sum' total r t put s =
+        let next_gate = w.pen.next in
+        let first = next e next_gate sum in
+        let same = same_next next_gate sum in
+        let split = rest_cons e next_gate sum l in
+        let written : Writes w first.gates w' = same_writes (ap (λ (x : Piece). x.gates) same) put in
+        let after : next_gate + length first.gates ≡ w'.pen.next = sym written.wrote.number in
         let held : first.sum ≡ sum' = sym (s ∙ ap (λ (x : Piece). x.sum) same) in
-        let later : Piece → Type 0 = λ x. Remains table₀ pen₀ all table' pen' x.gates × (x.sum ≡ total) in
+        let later : Piece → Type 0 = λ x. Leaves w₀ all w' x.gates × (x.sum ≡ total) in
         subst (λ (k : ℕ). later (rest (e + 1) k sum')) after
-        (subst (λ (u : Sum). later (rest (e + 1) (pen.next + length first.gates) u)) held
-        (remains_then (remains_as (ap (λ (x : Piece). x.gates) split) r) written, sym (ap (λ (x : Piece). x.sum) split) ∙ t))
+        (subst (λ (u : Sum). later (rest (e + 1) (next_gate + length first.gates) u)) held
+        (leaves_then (leaves_as (ap (λ (x : Piece). x.gates) split) r) written, sym (ap (λ (x : Piece). x.sum) split) ∙ t))
 
   -- nothing is left after the last
   pub rest_none : (e k : ℕ) (sum : Sum) → step < e → rest e k sum ≡ terms_from p step z (coefficient p) 0 o e k sum

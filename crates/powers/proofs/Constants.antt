@@ -1,9 +1,8 @@
 -- A list that begins with the constants of p: where the sixteen bits of each stand.
 -- Assumes nothing.
 use Rattle.std.proofs.Common.{◌≡◌, sym, ap, ◌∙◌, List, [], ◌++◌, ℕ, ◌+◌, ◌-◌, ◌*◌, ◌<◌, arith, length, length-take, get_or, get_or-take}
-use lib.ListN.{length-map, get_or-append}
-use lib.Seq.{get_or_at}
-use Rattle.std.proofs.lemmas.List.{get_or-map}
+use Rattle.std.proofs.Math.ListN.{get_or-append}
+use Rattle.std.proofs.lemmas.List.{length-map, get_or_at, get_or-map}
 use Rattle.field.specs.Half.{half}
 use Rattle.field.specs.Polynomials.{every_second, order_exponents, order_constant, order_constants}
 use Rattle.field.proofs.OrderConstants.{length_second, second_at}

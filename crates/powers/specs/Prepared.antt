@@ -6,8 +6,8 @@ use Rattle.circuit.specs.Gate.{Gate}
 use Rattle.comparison.specs.OrderDigit.{power_count}
 use Rattle.powers.specs.declared.OrderTables.{OrderTables}
 use Rattle.powers.specs.Powers.{Deep}
-use Rattle.writer.specs.declared.Pen.{Pen}
-use Rattle.writer.specs.Pen.{Room}
+use Rattle.writer.specs.declared.Writer.{Writer}
+use Rattle.writer.specs.Writing.{HasRoom}
 
 -- a list that begins with the constants of p, as SCALEs have them
 pub record Constants (p : ℕ) (list : List ℕ) : Type 0 where
@@ -19,7 +19,7 @@ pub record Prepared (p : ℕ) (tables : OrderTables) : Type 0 where
   pub long : power_count p < length tables.depths
   pub deep : Deep p tables.depths p
 
--- a table has room for the gates, and what order digits go by is prepared for p
-pub record Provided (table : List ℕ) (pen : Pen) (gates : List Gate) (p : ℕ) (tables : OrderTables) : Type 0 where
-  pub room : Room table pen (length gates)
+-- a writer has room for the gates, and what order digits go by is prepared for p
+pub record Provided (w : Writer) (gates : List Gate) (p : ℕ) (tables : OrderTables) : Type 0 where
+  pub room : HasRoom w (length gates)
   pub prepared : Prepared p tables

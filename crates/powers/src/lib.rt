@@ -6,13 +6,14 @@ ghost use Rattle.field.specs.Byte.{byte_values};
 ghost use Rattle.field.specs.Half.{half as half_of};
 ghost use Rattle.circuit.specs.Table.{most_gates};
 ghost use Rattle.comparison.specs.OrderDigit.{ascending, odd_exponents, power_of, powers, power_count, power_gate};
-ghost use Rattle.writer.specs.Pen.{Wrote, Room, Moved};
+ghost use Rattle.writer.specs.Pen.{Moved};
+ghost use Rattle.writer.specs.Writing.{HasRoom, Writes};
 ghost use Rattle.powers.specs.Powers.{IsWritten, Deep};
 ghost use Rattle.powers.specs.Prepared.{Prepared};
 
 use arithmetic::Modulus;
 use constants::MOST_CONSTANTS;
-use writer::{Gate, Node, Pen};
+use writer::{Gate, Node, Writer};
 
 // Room for the depths of z and its powers, for any odd p that is a byte.
 pub const MOST_POWERS: usize = 192;
@@ -56,52 +57,47 @@ impl OrderTables {
 }
 
 // The power z^i, from those of its halves.
-fn put_power(table: &mut [u8], pen: Pen, z: u16, i: u16) -> Pen
-    requires { Room table.old pen 1 × (2 ≤ i) × (i < byte_values) × (z + (i + 1) / 2 ≤ pen.next) }
-    ensures wrote { Wrote table.old pen (power_of z i ∷ []) table.new result }
-    ensures moves { Moved pen 1 result }
+fn put_power(out: &mut Writer, z: u16, i: u16)
+    requires { HasRoom out.old 1 × (2 ≤ i) × (i < byte_values) × (z + (i + 1) / 2 ≤ out.old.pen.next) }
+    ensures { Writes out.old (power_of z i ∷ []) out.new }
 {
     let low = i / 2 - 1;
     let high = (i + 1) / 2 - 1;
-    writer::put_gate(table, pen, Gate::Mul(z + low, z + high))
+    out.put(Gate::Mul(z + low, z + high));
 }
 
 // The powers z^i for i = 2 to h.
-pub fn put_low_powers(table: &mut [u8], pen: Pen, z: u16, h: u16) -> Pen
-    requires { Room table.old pen (h - 1) × (1 ≤ h) × (h < byte_values) × (pen.next ≡ z + 1) }
-    ensures wrote { Wrote table.old pen (map (power_of z) (ascending (h - 1) 2)) table.new result }
-    ensures moves { Moved pen (h - 1) result }
+pub fn put_low_powers(out: &mut Writer, z: u16, h: u16)
+    requires { HasRoom out.old (h - 1) × (1 ≤ h) × (h < byte_values) × (out.old.pen.next ≡ z + 1) }
+    ensures wrote { Writes out.old (map (power_of z) (ascending (h - 1) 2)) out.new }
+    ensures moves { Moved out.old.pen (h - 1) out.new.pen }
 {
-    let mut last = pen;
     for i in 2..h + 1 {
-        last = put_power(table, last, z, i);
+        put_power(out, z, i);
     }
-    last
 }
 
 // The powers z^i for the odd i = 2k + 1 above (p-1)/2 to p-2.
-fn put_odd_powers(table: &mut [u8], pen: Pen, z: u16, m: Modulus) -> Pen
-    requires { Room table.old pen (half_of m.p / 2) × (pen.next ≡ z + half_of m.p) }
-    ensures wrote { Wrote table.old pen (map (power_of z) (odd_exponents m.p)) table.new result }
-    ensures moves { Moved pen (half_of m.p / 2) result }
+fn put_odd_powers(out: &mut Writer, z: u16, m: Modulus)
+    requires { HasRoom out.old (half_of m.p / 2) × (out.old.pen.next ≡ z + half_of m.p) }
+    ensures wrote { Writes out.old (map (power_of z) (odd_exponents m.p)) out.new }
+    ensures moves { Moved out.old.pen (half_of m.p / 2) out.new.pen }
 {
     let half = (m.p - 1) / 2;
-    let mut last = pen;
     for k in (half + 1) / 2..half {
-        last = put_power(table, last, z, 2 * k + 1);
+        put_power(out, z, 2 * k + 1);
     }
-    last
 }
 
 // All powers of z.
-pub fn put_powers(table: &mut [u8], pen: Pen, z: u16, m: Modulus) -> Pen
-    requires { Room table.old pen (power_count m.p) × (pen.next ≡ z + 1) }
-    ensures wrote { Wrote table.old pen (powers m.p z) table.new result }
-    ensures moves { Moved pen (power_count m.p) result }
+pub fn put_powers(out: &mut Writer, z: u16, m: Modulus)
+    requires { HasRoom out.old (power_count m.p) × (out.old.pen.next ≡ z + 1) }
+    ensures wrote { Writes out.old (powers m.p z) out.new }
+    ensures moves { Moved out.old.pen (power_count m.p) out.new.pen }
 {
-    let low = put_low_powers(table, pen, z, (m.p - 1) / 2);
-    let odd = put_odd_powers(table, low, z, m);
-    put_power(table, odd, z, m.p - 1)
+    put_low_powers(out, z, (m.p - 1) / 2);
+    put_odd_powers(out, z, m);
+    put_power(out, z, m.p - 1);
 }
 
 // How far after z the power z^i stands.

@@ -23,7 +23,7 @@ use card::Card;
 use powers::OrderTables;
 use records::{MOST_GATES, RECORD};
 use relations::Relation;
-use writer::Pen;
+use writer::{Pen, Writer};
 
 // Room for the largest table: its head and 8191 gates.
 pub const SCRATCH: usize = RECORD * (MOST_GATES + 1);
@@ -91,16 +91,24 @@ fn count_less(table: &mut [u8; SCRATCH], m: Modulus, step: u16, tables: &OrderTa
     requires { IsStep m.p step × Prepared m.p tables.now }
     ensures { (result ≡ (step_less m.p step).count) × (result ≤ 11 * m.p) }
 {
-    let written = steps::put_step_less(table, second_gate(), m, step, tables);
-    written.pen.next - 1
+    let mut out = Writer {
+        table,
+        pen: second_gate(),
+    };
+    steps::put_step_less(&mut out, m, step, tables);
+    out.pen.next - 1
 }
 
 // How many gates E of a digit has, for every step size.
 pub fn count_equal(table: &mut [u8; SCRATCH], m: Modulus) -> u16
     ensures { (result ≡ (equality_test m.p).count) × (result ≤ m.p) }
 {
-    let written = equality::put_zero_test(table, second_gate(), 0, m);
-    written.pen.next - 1
+    let mut out = Writer {
+        table,
+        pen: second_gate(),
+    };
+    equality::put_zero_test(&mut out, 0, m);
+    out.pen.next - 1
 }
 
 // How many gates the table of a step size has: those of the base table, with the step size's tests in the place of its own.

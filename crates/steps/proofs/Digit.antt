@@ -12,10 +12,10 @@ use Rattle.step.specs.Digit.{step_sum, step_gates, step_less, step_equal, step_t
 use Rattle.step.specs.Pieces.{Piece, piece}
 use Rattle.step.specs.Powers.{top_level, squares_from, step_powers}
 use Rattle.step.proofs.Digit.{powers_length, less_size}
-use Rattle.writer.specs.declared.Pen.{Pen}
+use Rattle.writer.specs.declared.Writer.{Writer}
 use Rattle.writer.specs.Modulus.{Modulus}
-use Rattle.writer.specs.Pen.{Wrote}
-use Rattle.writer.proofs.Writing.{same_gates, then}
+use Rattle.writer.specs.Writing.{Writes}
+use Rattle.writer.proofs.Writing.{same_writes, follows}
 
 -- ---- L
 
@@ -34,16 +34,15 @@ module _ (p step : ℕ) (modulus : Modulus p) (is : IsStep p step) (z : ℕ) whe
       ap₂ (λ (n m : ℕ). piece p step z (coefficient p) n 0 m) e start
 
   -- powers, squares and the sum, one after the other
-  pub less_wrote : {table table₁ table₂ table₃ : List ℕ} {pen pen₁ pen₂ pen₃ : Pen} (count : ℕ) → count ≡ top_level p step → pen.next ≡ z + 1
-      → Wrote table pen (map (power_of z) (ascending (step - 1) 2)) table₁ pen₁ → pen₁.next ≡ pen.next + (step - 1)
-      → Wrote table₁ pen₁ (squares_from (count - 1) (pen₁.next - 1)) table₂ pen₂ → pen₂.next ≡ pen₁.next + (count - 1)
-      → Wrote table₂ pen₂ (piece p step z (coefficient p) count 0 pen₂.next).gates table₃ pen₃
-      → Wrote table pen (step_gates p step z) table₃ pen₃
-  less_wrote {pen₁ = pen₁} {pen₂ = pen₂} count e next low after squares more whole =
+  pub less_wrote : {w w₁ w₂ w₃ : Writer} (count : ℕ) → count ≡ top_level p step → w.pen.next ≡ z + 1
+      → Writes w (map (power_of z) (ascending (step - 1) 2)) w₁ → w₁.pen.next ≡ w.pen.next + (step - 1)
+      → Writes w₁ (squares_from (count - 1) (w₁.pen.next - 1)) w₂ → w₂.pen.next ≡ w₁.pen.next + (count - 1)
+      → Writes w₂ (piece p step z (coefficient p) count 0 w₂.pen.next).gates w₃ → Writes w (step_gates p step z) w₃
+  less_wrote {w₁ = w₁} {w₂ = w₂} count e next low after squares more whole =
       let one = is.0 in
-      let gate : pen₁.next - 1 ≡ low_power z step = omega arith in
-      let above = same_gates (ap₂ squares_from (ap (λ (n : ℕ). n - 1) e) gate) squares in
-      then (then low above) (same_gates (ap (λ (x : Piece). x.gates) (whole_is count pen₂.next e (omega arith))) whole)
+      let gate : w₁.pen.next - 1 ≡ low_power z step = omega arith in
+      let above = same_writes (ap₂ squares_from (ap (λ (n : ℕ). n - 1) e) gate) squares in
+      follows (follows low above) (same_writes (ap (λ (x : Piece). x.gates) (whole_is count w₂.pen.next e (omega arith))) whole)
 
 -- ---- both, over the difference whose first gate is number k
 
@@ -68,7 +67,6 @@ module _ (p step : ℕ) (modulus : Modulus p) (is : IsStep p step) (k next : ℕ
         length-append ((step_less p step).gates k) (unless_lowest j ((step_equal p step).gates k))
         ∙ ap (λ (gates : List Gate). length gates + length (unless_lowest j ((step_equal p step).gates k))) (sym less_here)
 
-    pub tests_wrote : {table table₁ table₂ : List ℕ} {pen pen₁ pen₂ : Pen} → Wrote table pen (step_gates p step (next - 1)) table₁ pen₁
-        → Wrote table₁ pen₁ (unless_lowest j ((step_equal p step).gates k)) table₂ pen₂
-        → Wrote table pen (order_tests (step_tests p step) j k) table₂ pen₂
-    tests_wrote less equal = then (same_gates less_here less) equal
+    pub tests_wrote : {w w₁ w₂ : Writer} → Writes w (step_gates p step (next - 1)) w₁
+        → Writes w₁ (unless_lowest j ((step_equal p step).gates k)) w₂ → Writes w (order_tests (step_tests p step) j k) w₂
+    tests_wrote less equal = follows (same_writes less_here less) equal

@@ -1,8 +1,8 @@
 -- How often a number is doubled until it reaches another: once more than its double, where it does not reach it yet.
 -- Assumes nothing.
 use Rattle.std.proofs.Common.{◌≡◌, ℕ, zero, suc, ◌+◌, ◌*◌, ◌^◌, ◌≤◌, ◌<◌, arith, add-one, le-leb}
-use native.Mathlib.Nat.{pow-succ'}
-use borrow.Author.Tests.{lt-leb}
+use Rattle.std.proofs.Math.Nat.{pow-succ'}
+use Rattle.std.proofs.lemmas.Bool.{lt-leb}
 use Rattle.step.specs.Powers.{doublings}
 
 pub doublings_none : (most m t : ℕ) → t ≤ m → doublings most m t ≡ 0

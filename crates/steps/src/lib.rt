@@ -10,20 +10,14 @@ ghost use Rattle.comparison.specs.Tests.{less_node, equal_node, digit_depth};
 ghost use Rattle.step.specs.Digit.{step_gates, step_less, step_tests, IsStep};
 ghost use Rattle.step.specs.Powers.{top_level, squares_from};
 ghost use Rattle.writer.specs.Nodes.{node_is};
-ghost use Rattle.writer.specs.Pen.{Wrote, Room, Moved};
+ghost use Rattle.writer.specs.Pen.{Moved};
+ghost use Rattle.writer.specs.Writing.{HasRoom, Writes};
 ghost use Rattle.powers.specs.Prepared.{Provided};
 
 use arithmetic::Modulus;
 use pieces::Polynomial;
 use powers::OrderTables;
-use writer::{Gate, Node, Pen, Tests, Written, put_gate};
-
-// The pen after the tests of an order digit, and the nodes of its L and its E. The lowest digit has no E: there it is any node.
-#[derive(Clone, Copy, Debug, PartialEq, Eq)]
-pub struct Tested {
-    pub pen: Pen,
-    pub tests: Tests,
-}
+use writer::{Gate, Node, Tests, Writer};
 
 // How often a step size is doubled until it reaches p-1, and what it is then.
 #[derive(Clone, Copy, Debug, PartialEq, Eq)]
@@ -48,86 +42,63 @@ fn levels(m: Modulus, step: u16) -> Doubled
 }
 
 // Squares one after the other, n of them: the first is that of the gate before the pen.
-fn put_squares(table: &mut [u8], pen: Pen, n: u16) -> Pen
-    requires { Room table.old pen n × (1 ≤ pen.next) }
-    ensures wrote { Wrote table.old pen (squares_from n (pen.next - 1)) table.new result }
-    ensures moves { Moved pen n result }
+fn put_squares(out: &mut Writer, n: u16)
+    requires { HasRoom out.old n × (1 ≤ out.old.pen.next) }
+    ensures wrote { Writes out.old (squares_from n (out.old.pen.next - 1)) out.new }
+    ensures moves { Moved out.old.pen n out.new.pen }
 {
-    let mut last = pen;
-    for i in 0..n {
-        let gate = pen.next - 1 + i;
-        last = put_gate(table, last, Gate::Mul(gate, gate));
+    for _ in 0..n {
+        let gate = out.pen.next - 1;
+        out.put(Gate::Mul(gate, gate));
     }
-    last
 }
 
 // L of the gate z before the pen: z^2 to z^step, the squares up to the highest split, and the whole polynomial as one piece.
-pub fn put_step_less(
-    table: &mut [u8],
-    pen: Pen,
-    m: Modulus,
-    step: u16,
-    tables: &OrderTables,
-) -> Written
-    requires provided { Provided table.old pen (step_gates m.p step (pen.next - 1)) m.p tables.now }
-    requires le_next { (1 ≤ pen.next) × IsStep m.p step }
-    ensures wrote { Wrote table.old pen (step_gates m.p step (pen.next - 1)) table.new result.pen }
-    ensures moves { Moved pen (length (step_gates m.p step (pen.next - 1))) result.pen }
-    ensures output { (result.node.gate + 1 ≡ result.pen.next) × (result.node.depth ≡ (step_less m.p step).depth) }
+pub fn put_step_less(out: &mut Writer, m: Modulus, step: u16, tables: &OrderTables) -> Node
+    requires provided { Provided out.old (step_gates m.p step (out.old.pen.next - 1)) m.p tables.now }
+    requires le_next { (1 ≤ out.old.pen.next) × IsStep m.p step }
+    ensures wrote { Writes out.old (step_gates m.p step (out.old.pen.next - 1)) out.new }
+    ensures output { (result.gate + 1 ≡ out.new.pen.next) × (result.depth ≡ (step_less m.p step).depth) }
 {
-    let z = pen.next - 1;
+    let z = out.pen.next - 1;
     let whole = levels(m, step);
-    let raised = powers::put_low_powers(table, pen, z, step);
-    let squared = put_squares(table, raised, whole.count - 1);
+    powers::put_low_powers(out, z, step);
+    put_squares(out, whole.count - 1);
     let polynomial = Polynomial { m, step, z, tables };
-    let summed = polynomial.put_piece(table, squared, whole.count, 0, whole.span);
+    let sum = polynomial.put_piece(out, whole.count, 0, whole.span);
     let other = Node { gate: z, depth: 0 };
-    Written {
-        pen: summed.pen,
-        node: summed.sum.unwrap_or(other),
-    }
+    sum.unwrap_or(other)
 }
 
 // E of the gate z, for every digit but the lowest: the digit is number j.
-fn put_step_equal(table: &mut [u8], pen: Pen, j: u16, z: u16, m: Modulus) -> Written
-    requires { Room table.old pen (length (unless_lowest j (zero_chain (bits (m.p - 1)) pen.next z))) }
-    ensures wrote { Wrote table.old pen (unless_lowest j (zero_chain (bits (m.p - 1)) pen.next z)) table.new result.pen }
-    ensures moves { Moved pen (length (unless_lowest j (zero_chain (bits (m.p - 1)) pen.next z))) result.pen }
-    ensures output { 0 < j → (result.node.gate + 1 ≡ result.pen.next) × (result.node.depth ≡ digit_depth m.p) }
+fn put_step_equal(out: &mut Writer, j: u16, z: u16, m: Modulus) -> Node
+    requires { HasRoom out.old (length (unless_lowest j (zero_chain (bits (m.p - 1)) out.old.pen.next z))) }
+    ensures wrote { Writes out.old (unless_lowest j (zero_chain (bits (m.p - 1)) out.old.pen.next z)) out.new }
+    ensures output { 0 < j → (result.gate + 1 ≡ out.new.pen.next) × (result.depth ≡ digit_depth m.p) }
 {
     if j == 0 {
-        return Written {
-            pen,
-            node: Node { gate: z, depth: 0 },
-        };
+        return Node { gate: z, depth: 0 };
     }
-    equality::put_zero_test(table, pen, z, m)
+    equality::put_zero_test(out, z, m)
 }
 
-// The tests of digit number j for a step size, over the difference whose first gate is number k: L, and E unless the digit is the lowest.
+// The tests of digit number j for a step size, over the difference whose first gate is number k: L, and E. The lowest digit has no E: there
+// it is any node.
 pub fn put_step_tests(
-    table: &mut [u8],
-    pen: Pen,
+    out: &mut Writer,
     k: u16,
     m: Modulus,
     step: u16,
     j: u16,
     tables: &OrderTables,
-) -> Tested
-    requires provided { Provided table.old pen (order_tests (step_tests m.p step) j k) m.p tables.now }
-    requires next_value { (pen.next ≡ k + 3) × IsStep m.p step }
-    ensures wrote { Wrote table.old pen (order_tests (step_tests m.p step) j k) table.new result.pen }
-    ensures moves { Moved pen (length (order_tests (step_tests m.p step) j k)) result.pen }
-    ensures less { node_is result.tests.less ≡ less_node (step_tests m.p step) k }
-    ensures equal { 0 < j → node_is result.tests.equal ≡ equal_node (step_tests m.p step) k }
+) -> Tests
+    requires provided { Provided out.old (order_tests (step_tests m.p step) j k) m.p tables.now }
+    requires next_value { (out.old.pen.next ≡ k + 3) × IsStep m.p step }
+    ensures wrote { Writes out.old (order_tests (step_tests m.p step) j k) out.new }
+    ensures less { node_is result.less ≡ less_node (step_tests m.p step) k }
+    ensures equal { 0 < j → node_is result.equal ≡ equal_node (step_tests m.p step) k }
 {
-    let less = put_step_less(table, pen, m, step, tables);
-    let equal = put_step_equal(table, less.pen, j, k + 2, m);
-    Tested {
-        pen: equal.pen,
-        tests: Tests {
-            less: less.node,
-            equal: equal.node,
-        },
-    }
+    let less = put_step_less(out, m, step, tables);
+    let equal = put_step_equal(out, j, k + 2, m);
+    Tests { less, equal }
 }

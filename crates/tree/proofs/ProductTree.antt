@@ -9,10 +9,10 @@ use Rattle.circuit.specs.Table.{most_gates}
 use Rattle.circuit.proofs.Choosing.{first_of, second_of, rest_of, next, pair_is, next_length}
 use Rattle.circuit.proofs.Every.{every_map, every_append}
 use Rattle.circuit.proofs.Rearranged.{same_every}
-use Rattle.writer.specs.declared.Pen.{Pen}
+use Rattle.writer.specs.declared.Writer.{Writer}
 use Rattle.tree.specs.Factors.{Shallow}
-use Rattle.writer.specs.Pen.{Wrote}
-use Rattle.writer.proofs.Writing.{none, then}
+use Rattle.writer.specs.Writing.{Writes}
+use Rattle.writer.proofs.Writing.{idle, follows}
 
 -- two factors are taken out, one after the other
 pub record Taken (factors : List Node) (a b : Node) (rest : List Node) : Type 0 where
@@ -41,29 +41,27 @@ tree_turn k k' factors rest factors' a b two step e last =
     rw (last, step.first, step.second, step.others, e, fewer, more)
 
 -- what is left to write, the tree over factors from a table and a pen on, gives the whole
-pub record Gives (table₀ : List ℕ) (pen₀ : Pen) (factors₀ : List Node) (table : List ℕ) (pen : Pen) (factors : List Node) : Type 0 where
-  pub writes : (table' : List ℕ) (pen' : Pen) → Wrote table pen (product_tree pen.next factors).gates table' pen'
-      → Wrote table₀ pen₀ (product_tree pen₀.next factors₀).gates table' pen'
-  pub puts : (product_tree pen.next factors).output ≡ (product_tree pen₀.next factors₀).output
+pub record Gives (w₀ : Writer) (factors₀ : List Node) (w : Writer) (factors : List Node) : Type 0 where
+  pub writes : (w' : Writer) → Writes w (product_tree w.pen.next factors).gates w' → Writes w₀ (product_tree w₀.pen.next factors₀).gates w'
+  pub puts : (product_tree w.pen.next factors).output ≡ (product_tree w₀.pen.next factors₀).output
 
-pub begin : {table : List ℕ} {pen : Pen} {factors : List Node} → Gives table pen factors table pen factors
-begin = record { writes = λ table' pen' w. w; puts = refl }
+pub begin : {w : Writer} {factors : List Node} → Gives w factors w factors
+begin = record { writes = λ w' h. h; puts = refl }
 
-module _ {table₀ table : List ℕ} {pen₀ pen : Pen} {factors₀ factors : List Node} (gives : Gives table₀ pen₀ factors₀ table pen factors) where
-  pub turn : {table' : List ℕ} {pen' : Pen} {rest factors' : List Node} {a b : Node} → 2 ≤ length factors → Taken factors a b rest
-      → Wrote table pen (Mul a.gate b.gate ∷ []) table' pen' → pen'.next ≡ pen.next + 1
-      → factors' ≡ rest ++ (times pen.next a b ∷ []) → Gives table₀ pen₀ factors₀ table' pen' factors'
-  turn {rest = rest} {factors' = factors'} {a = a} {b = b} two step wrote moves last =
-      let tree = tree_turn pen.next _ factors rest factors' a b two step (moves ∙ add-one _) last in
+module _ {w₀ w : Writer} {factors₀ factors : List Node} (gives : Gives w₀ factors₀ w factors) where
+  pub turn : {w' : Writer} {rest factors' : List Node} {a b : Node} → 2 ≤ length factors → Taken factors a b rest
+      → Writes w (Mul a.gate b.gate ∷ []) w' → factors' ≡ rest ++ (times w.pen.next a b ∷ []) → Gives w₀ factors₀ w' factors'
+  turn {rest = rest} {factors' = factors'} {a = a} {b = b} two step wrote last =
+      let tree = tree_turn w.pen.next _ factors rest factors' a b two step (wrote.moved.0 ∙ add-one _) last in
       record {
-        writes = λ table₂ pen₂ w. gives.writes table₂ pen₂ (rw tree (then wrote w));
+        writes = λ w₂ h. gives.writes w₂ (rw tree (follows wrote h));
         puts = ap (λ (t : Segment). t.output) (sym tree) ∙ gives.puts;
       }
 
-  pub ended : {f : Node} → factors ≡ f ∷ [] → Wrote table₀ pen₀ (product_tree pen₀.next factors₀).gates table pen
-      × (f ≡ (product_tree pen₀.next factors₀).output)
+  pub ended : {f : Node} → factors ≡ f ∷ [] → w.pen.products ≤ w.pen.next → w.pen.squares ≤ w.pen.next
+      → Writes w₀ (product_tree w₀.pen.next factors₀).gates w × (f ≡ (product_tree w₀.pen.next factors₀).output)
   unfolding multiply least
-  ended one = (gives.writes table pen (rw one none), rw one at gives.puts)
+  ended one products squares = (gives.writes w (rw one (idle products squares)), rw one at gives.puts)
 
 -- ---- depths
 

@@ -5,9 +5,10 @@ ghost use Rattle.std.specs.Prelude.{◌≡◌, ◌-◌, ◌≤◌, ◌<◌, leng
 ghost use Rattle.circuit.specs.ProductTree.{choose, product_tree};
 ghost use Rattle.tree.specs.Factors.{depths, FirstLeast, Shallow};
 ghost use Rattle.writer.specs.Nodes.{node_is};
-ghost use Rattle.writer.specs.Pen.{Wrote, Room, Moved};
+ghost use Rattle.writer.specs.Pen.{Moved};
+ghost use Rattle.writer.specs.Writing.{HasRoom, Writes};
 
-use writer::{Node, Pen, Written};
+use writer::{Node, Writer};
 
 // The place of the first of the nodes of least depth.
 fn first_least(nodes: &[Node]) -> usize
@@ -36,23 +37,17 @@ fn take_least(nodes: &mut [Node]) -> Node
 }
 
 // The product tree over factors in gate order. It uses them up.
-pub fn put_product_tree(table: &mut [u8], pen: Pen, nodes: &mut [Node]) -> Written
-    requires room { Room table.old pen (length nodes.old - 1) × (1 ≤ length nodes.old) }
+pub fn put_product_tree(out: &mut Writer, nodes: &mut [Node]) -> Node
+    requires room { HasRoom out.old (length nodes.old - 1) × (1 ≤ length nodes.old) }
     requires shallow { Shallow (length nodes.old) (map node_is nodes.old) }
-    ensures wrote { Wrote table.old pen (product_tree pen.next (map node_is nodes.old)).gates table.new result.pen }
-    ensures moves { Moved pen (length nodes.old - 1) result.pen }
-    ensures output { node_is result.node ≡ (product_tree pen.next (map node_is nodes.old)).output }
+    ensures wrote { Writes out.old (product_tree out.old.pen.next (map node_is nodes.old)).gates out.new }
+    ensures moves { Moved out.old.pen (length nodes.old - 1) out.new.pen }
+    ensures output { node_is result ≡ (product_tree out.old.pen.next (map node_is nodes.old)).output }
 {
-    let mut current = pen;
     for left in (1..nodes.len()).rev() {
         let a = take_least(&mut nodes[..left + 1]);
         let b = take_least(&mut nodes[..left]);
-        let product = writer::multiply(table, current, a, b);
-        current = product.pen;
-        nodes[left - 1] = product.node;
+        nodes[left - 1] = out.multiply(a, b);
     }
-    Written {
-        pen: current,
-        node: nodes[0],
-    }
+    nodes[0]
 }

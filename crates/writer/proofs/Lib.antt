@@ -1,4 +1,4 @@
 -- Laws of writing.
 pub mod Writing
 pub mod Gates
-pub mod Remains
+pub mod Leaves

@@ -3,7 +3,7 @@
 -- Assumes nothing.
 use Rattle.std.proofs.lemmas.List.{drop-drop}
 use Rattle.std.proofs.lemmas.List.Edits.{sets, sets-eq}
-use Rattle.std.proofs.Common.{◌≡◌, refl, sym, ap, ◌∙◌, subst, List, [], ◌∷◌, ◌++◌, append_assoc, ℕ, ◌+◌, ◌*◌, ◌≤◌, length, take, drop, arith, length-append}
+use Rattle.std.proofs.Common.{◌≡◌, refl, sym, ap, ◌∙◌, subst, List, [], ◌∷◌, ◌++◌, append_assoc, ℕ, ◌+◌, ◌-◌, ◌*◌, ◌≤◌, length, take, drop, arith, length-append}
 use borrow.Rule.Slice.PartMut.{put_mid}
 use Rattle.answer.proofs.Lent.{sets_append}
 use Rattle.circuit.specs.Count.{count, is_product, is_square}
@@ -12,7 +12,9 @@ use Rattle.circuit.specs.Table.{gates_bytes, table_bytes, head_bytes, Table}
 use Rattle.circuit.proofs.Count.{count_append}
 use Rattle.circuit.proofs.Reading.{length_gates, bytes_append, head_length}
 use Rattle.writer.specs.declared.Pen.{Pen}
+use Rattle.writer.specs.declared.Writer.{Writer}
 use Rattle.writer.specs.Pen.{laid, Wrote}
+use Rattle.writer.specs.Writing.{Writes}
 
 -- ---- bytes
 
@@ -24,11 +26,12 @@ laid_append table k gs hs =
     ∙ sets_append table (8 * (k + 1)) (gates_bytes gs) (gates_bytes hs)
     ∙ ap (λ (i : ℕ). sets (sets table (8 * (k + 1)) (gates_bytes gs)) i (gates_bytes hs)) e
 
--- a part of a table that is written over: k bytes from a place on
-pub part_set : (table bytes : List ℕ) (at k : ℕ) → k ≡ length bytes → at + k ≤ length table
-    → put_mid at k table bytes ≡ sets table at bytes
-part_set table bytes at k e room =
-    rw e
+-- what a copy to a part of a table leaves: the bytes, laid over it from a place on
+pub copied : (table bytes : List ℕ) (at : ℕ) {part : List ℕ} → part ≡ bytes → length bytes ≡ 8 → at + 8 ≤ length table
+    → put_mid at (at + 8 - at) table part ≡ sets table at bytes
+copied table bytes at same long room =
+    let eight : at + 8 - at ≡ length bytes = omega arith in
+    rw (same, eight)
     (ap (λ (rest : List ℕ). take at table ++ (bytes ++ rest)) (drop-drop (length bytes) at table)
     ∙ sym (append_assoc (take at table) bytes _)
     ∙ sym (sets-eq bytes table at (omega arith)))
@@ -79,3 +82,22 @@ then {table = table} {pen = pen} {gs = gs} {hs = hs} a b = record {
   products = omega (arith, a.products, b.products, count_append is_product gs hs);
   squares = omega (arith, a.squares, b.squares, count_append is_square gs hs);
 }
+
+-- ---- a writer
+
+-- one after the other
+pub follows : {w w₁ w₂ : Writer} {gs hs : List Gate} → Writes w gs w₁ → Writes w₁ hs w₂ → Writes w (gs ++ hs) w₂
+follows {gs = gs} {hs = hs} a b = record {
+  wrote = then a.wrote b.wrote;
+  moved = omega (arith, a.moved, b.moved, length-append gs hs);
+  size = b.size ∙ a.size;
+  lent = b.lent ∙ a.lent;
+}
+
+-- nothing is written
+pub idle : {w : Writer} → w.pen.products ≤ w.pen.next → w.pen.squares ≤ w.pen.next → Writes w [] w
+idle products squares = record { wrote = none; moved = omega arith; size = refl; lent = refl }
+
+-- the same gates, said in another way
+pub same_writes : {w w' : Writer} {gs hs : List Gate} → gs ≡ hs → Writes w gs w' → Writes w hs w'
+same_writes {w = w} {w' = w'} e a = subst (λ (gates : List Gate). Writes w gates w') e a

@@ -13,7 +13,8 @@ ghost use Rattle.records.specs.Head.{slots_is};
 ghost use Rattle.records.specs.Kind.{kind_number};
 ghost use Rattle.writer.specs.Gates.{gate_is};
 ghost use Rattle.writer.specs.Nodes.{node_is};
-ghost use Rattle.writer.specs.Pen.{fresh, Wrote, Room, Moved};
+ghost use Rattle.writer.specs.Pen.{fresh};
+ghost use Rattle.writer.specs.Writing.{HasRoom, Writes};
 
 use records::{BOTH_MARK, EACH_MARK, GATE_MARK, Kind, RECORD, SlotCounts};
 
@@ -23,6 +24,13 @@ pub struct Pen {
     pub next: u16,
     pub products: u32,
     pub squares: u32,
+}
+
+// A lent table, and the pen that writes gates into it.
+#[derive(Drop)]
+pub struct Writer<'a> {
+    pub table: &'a mut [u8],
+    pub pen: Pen,
 }
 
 // A gate with its depth.
@@ -140,69 +148,65 @@ pub fn put_head(table: &mut [u8], prime: u8, weight: u8, slots: SlotCounts, coun
     ]);
 }
 
-// Writes a gate.
-pub fn put_gate(table: &mut [u8], pen: Pen, gate: Gate) -> Pen
-    requires { Room table.old pen 1 }
-    ensures wrote { Wrote table.old pen (gate_is gate ∷ []) table.new result }
-    ensures moves { Moved pen 1 result }
-{
-    let at = RECORD * (usize::from(pen.next) + 1);
-    table[at..at + RECORD].copy_from_slice(&gate.record());
-    pen.after(gate)
-}
-
-// MUL, with the depth of the product.
-pub fn multiply(table: &mut [u8], pen: Pen, a: Node, b: Node) -> Written
-    requires { Room table.old pen 1 × (a.depth < most_gates) × (b.depth < most_gates) }
-    ensures wrote { Wrote table.old pen (Mul a.gate b.gate ∷ []) table.new result.pen }
-    ensures moves { Moved pen 1 result.pen }
-    ensures deepens { node_is result.node ≡ times pen.next (node_is a) (node_is b) }
-{
-    let gate = pen.next;
-    let depth = a.depth.max(b.depth) + 1;
-    Written {
-        pen: put_gate(table, pen, Gate::Mul(a.gate, b.gate)),
-        node: Node { gate, depth },
+impl<'a> Writer<'a> {
+    // Writes a gate.
+    pub fn put(&mut self, gate: Gate)
+        requires { HasRoom self.old 1 }
+        ensures { Writes self.old (gate_is gate ∷ []) self.new }
+    {
+        let at = RECORD * (usize::from(self.pen.next) + 1);
+        let table = &mut *self.table;
+        table[at..at + RECORD].copy_from_slice(&gate.record());
+        self.pen = self.pen.after(gate);
     }
-}
 
-// A term of a sum, which is the SCALE of a gate, and the sum with it.
-pub fn add_term(table: &mut [u8], pen: Pen, sum: Node, operand: Node, b: u16) -> Written
-    requires { Room table.old pen 2 }
-    ensures wrote { Wrote table.old pen (Scale operand.gate (signed b) ∷ Add sum.gate pen.next ∷ []) table.new result.pen }
-    ensures moves { Moved pen 2 result.pen }
-    ensures deepens { (result.node.gate ≡ pen.next + 1) × (result.node.depth ≡ max sum.depth operand.depth) }
-{
-    let term = put_gate(table, pen, Gate::Scale(operand.gate, b));
-    let gate = term.next;
-    let depth = sum.depth.max(operand.depth);
-    Written {
-        pen: put_gate(table, term, Gate::Add(sum.gate, pen.next)),
-        node: Node { gate, depth },
+    // MUL, with the depth of the product.
+    pub fn multiply(&mut self, a: Node, b: Node) -> Node
+        requires { HasRoom self.old 1 × (a.depth < most_gates) × (b.depth < most_gates) }
+        ensures wrote { Writes self.old (Mul a.gate b.gate ∷ []) self.new }
+        ensures deepens { node_is result ≡ times self.old.pen.next (node_is a) (node_is b) }
+    {
+        let gate = self.pen.next;
+        let depth = a.depth.max(b.depth) + 1;
+        self.put(Gate::Mul(a.gate, b.gate));
+        Node { gate, depth }
     }
-}
 
-// The difference of the digits at gates k and k + 1, or that of the second and the first.
-fn put_minus(table: &mut [u8], pen: Pen, backward: bool, k: u16) -> Pen
-    requires { Room table.old pen 1 × (k < most_gates) }
-    ensures wrote { Wrote table.old pen (minus backward k ∷ []) table.new result }
-    ensures moves { Moved pen 1 result }
-{
-    let gate = if backward {
-        Gate::Sub(k + 1, k)
-    } else {
-        Gate::Sub(k, k + 1)
-    };
-    put_gate(table, pen, gate)
-}
+    // A term of a sum, which is the SCALE of a gate, and the sum with it.
+    pub fn add_term(&mut self, sum: Node, operand: Node, b: u16) -> Node
+        requires { HasRoom self.old 2 }
+        ensures wrote { Writes self.old (Scale operand.gate (signed b) ∷ Add sum.gate self.old.pen.next ∷ []) self.new }
+        ensures deepens { (result.gate ≡ self.old.pen.next + 1) × (result.depth ≡ max sum.depth operand.depth) }
+    {
+        let term = self.pen.next;
+        self.put(Gate::Scale(operand.gate, b));
+        let gate = self.pen.next;
+        let depth = sum.depth.max(operand.depth);
+        self.put(Gate::Add(sum.gate, term));
+        Node { gate, depth }
+    }
 
-// LEFT, RIGHT and z.
-pub fn put_difference(table: &mut [u8], pen: Pen, backward: bool, left: u16, right: u16) -> Pen
-    requires { Room table.old pen 3 }
-    ensures wrote { Wrote table.old pen (Left left ∷ Right right ∷ minus backward pen.next ∷ []) table.new result }
-    ensures moves { Moved pen 3 result }
-{
-    let second = put_gate(table, pen, Gate::Left(left));
-    let third = put_gate(table, second, Gate::Right(right));
-    put_minus(table, third, backward, pen.next)
+    // The difference of the digits at gates k and k + 1, or that of the second and the first.
+    fn put_minus(&mut self, backward: bool, k: u16)
+        requires { HasRoom self.old 1 × (k < most_gates) }
+        ensures { Writes self.old (minus backward k ∷ []) self.new }
+    {
+        let gate = if backward {
+            Gate::Sub(k + 1, k)
+        } else {
+            Gate::Sub(k, k + 1)
+        };
+        self.put(gate);
+    }
+
+    // LEFT, RIGHT and z.
+    pub fn put_difference(&mut self, backward: bool, left: u16, right: u16)
+        requires { HasRoom self.old 3 }
+        ensures { Writes self.old (Left left ∷ Right right ∷ minus backward self.old.pen.next ∷ []) self.new }
+    {
+        let k = self.pen.next;
+        self.put(Gate::Left(left));
+        self.put(Gate::Right(right));
+        self.put_minus(backward, k);
+    }
 }

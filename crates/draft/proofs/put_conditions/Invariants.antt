@@ -9,6 +9,5 @@ use Rattle.draft.proofs.put_conditions.Given as goal
 
 abbrev pub invariant-loop-k : goal.invariant-loop-k
 invariant-loop-k l =
-    Adds (tests_by l.fn.card.head.prime l.step) l.fn.card.head.prime (conditions_of l.fn.card.bytes.now) l.initial.table l.table l.pen (length l.yielded) l.outputs
-    × (length l.table ≡ length l.initial.table)
+    Adds (tests_by l.fn.card.head.prime l.step) l.fn.card.head.prime (conditions_of l.fn.card.bytes.now) l.initial.out l.out (length l.yielded) l.outputs
     × (length l.outputs ≡ length l.initial.outputs)

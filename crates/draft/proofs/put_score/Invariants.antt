@@ -8,4 +8,4 @@ use Rattle.draft.proofs.put_score.Given as goal
 
 abbrev pub invariant-loop-k : goal.invariant-loop-k
 invariant-loop-k l =
-    Adds l.card.head.prime (conditions_of l.card.bytes.now) (map node_is l.outputs) l.initial.table l.initial.sum l.table l.sum l.k
+    Adds l.card.head.prime (conditions_of l.card.bytes.now) (map node_is l.outputs) l.initial.out l.initial.sum l.out l.sum l.k

@@ -1,4 +1,4 @@
-use Rattle.std.proofs.Common.{length, arith}
+use Rattle.std.proofs.Common.{length, sym, arith}
 use Rattle.comparison.specs.Condition.{Condition}
 use Rattle.comparison.specs.Writing.{condition_segment}
 use Rattle.filling.specs.State.{BuildState}
@@ -17,8 +17,8 @@ invariant_of-m c =
 pub overflow_add-state-2 : goal.overflow_add-state-2
 overflow_add-state-2 c = omega (arith, few_gates c.requires)
 
-pub put_condition-written-requires-clause-room : goal.put_condition-written-requires-clause-room
-put_condition-written-requires-clause-room c =
+pub put_condition-node-requires-clause-room : goal.put_condition-node-requires-clause-room
+put_condition-node-requires-clause-room c =
     let s = c.args.state.now in
     let state : BuildState = state_is s in
     let condition : Condition = condition_next state (relation_is c.args.relation) c.args.digits in
@@ -32,10 +32,12 @@ put_condition-written-requires-clause-room c =
 pub grow-requires : goal.grow-requires
 grow-requires c =
     let d = c.requires in
-    let wrote = rw (c.from.ensures, c.from-2.ensures, c.from-slot.ensures) at c.put_condition-written.ensures.wrote in
+    let wrote = rw (c.from.ensures, c.from-2.ensures, c.from-slot.ensures) at c.put_condition-node.ensures.wrote.wrote in
     record { few = d.takes.few; slots = d.slots; counts = condition_counts d c.pen.ensures wrote }
 
 pub returns-clause-leaves : goal.returns-clause-leaves
 returns-clause-leaves c =
-    let wrote = rw (c.from.ensures, c.from-2.ensures, c.from-slot.ensures) at c.put_condition-written.ensures.wrote in
-    condition_leaves c.requires c.pen.ensures wrote c.put_head.ensures
+    let wrote = rw (c.from.ensures, c.from-2.ensures, c.from-slot.ensures) at c.put_condition-node.ensures.wrote.wrote in
+    let left = condition_leaves c.requires c.pen.ensures wrote c.put_head.ensures in
+    let lent = sym c.put_condition-node.ensures.wrote.lent in
+    grind (arith, left, lent)

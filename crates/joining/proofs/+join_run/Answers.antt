@@ -1,4 +1,4 @@
-use Rattle.std.proofs.Common.{arith}
+use Rattle.std.proofs.Common.{length, arith}
 use Rattle.joining.specs.Listed.{less_at, equal_at}
 use Rattle.joining.proofs.Depth.{below_upper, above_upper, run_shallow}
 use Rattle.joining.proofs.Joins.{run_one}
@@ -8,7 +8,7 @@ use Rattle.joining.proofs.+join_run.Goals as goal
 pub returns-then-tests-eq1 : goal.returns-then-tests-eq1
 returns-then-tests-eq1 t c =
     let tests = c.args.tests.now in
-    let one = run_one (less_at tests) (equal_at tests) 0 _ (omega arith) in
+    let one = run_one (less_at tests) (equal_at tests) 0 (length tests) {w = c.args.out.now} (omega arith) (omega arith) (omega arith) in
     record { wrote = one.0; moves = omega arith; less = one.1; equal = one.2 }
 
 pub put_join-requires : goal.put_join-requires

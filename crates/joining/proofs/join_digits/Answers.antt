@@ -6,5 +6,5 @@ use Rattle.joining.proofs.join_digits.Goals as goal
 pub returns-then-tests-eq1 : goal.returns-then-tests-eq1
 returns-then-tests-eq1 c =
     let tests = c.args.tests.now in
-    let one = lowest_one (less_at tests) (equal_at tests) _ (omega arith) in
-    record { wrote = one.0; moves = omega (arith, one.0.number); output = one.1 }
+    let one = lowest_one (less_at tests) (equal_at tests) _ (omega arith) (omega arith) (omega arith) in
+    record { wrote = one.0; output = one.1 }

@@ -8,8 +8,8 @@ use Rattle.rating.proofs.count_equal.Goals as goal
 few : (p : ℕ) → Modulus p → (equality_test p).count ≤ p
 few p odd = omega (arith, odd, ones_below (p - 1) (omega (arith, odd)) (omega (arith, odd)), flog_below (p - 1) (omega (arith, odd)))
 
-pub put_zero_test-written-requires : goal.put_zero_test-written-requires
-put_zero_test-written-requires c =
+pub put_zero_test-requires : goal.put_zero_test-requires
+put_zero_test-requires c =
     let m = c.args.m in
     let f = few m.p (m.least, m.odd, m.byte) in
     (omega (arith, f, c.second_gate.ensures), omega (arith, f, c.second_gate.ensures), omega (arith, c.second_gate.ensures), omega (arith, c.second_gate.ensures))
@@ -17,5 +17,5 @@ put_zero_test-written-requires c =
 pub returns : goal.returns
 returns c =
     let m = c.args.m in
-    let moved = c.put_zero_test-written.ensures.moves.0 in
+    let moved = c.put_zero_test.ensures.moves.0 in
     (omega (arith, moved, c.second_gate.ensures), omega (arith, moved, c.second_gate.ensures, few m.p (m.least, m.odd, m.byte)))

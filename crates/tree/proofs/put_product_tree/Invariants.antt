@@ -3,7 +3,7 @@
 use Rattle.std.proofs.Common.{◌≡◌, ◌+◌, ◌-◌, ◌≤◌, length, map}
 use Rattle.tree.specs.Factors.{Shallow}
 use Rattle.writer.specs.Nodes.{node_is}
-use Rattle.writer.specs.Pen.{Room}
+use Rattle.writer.specs.Writing.{HasRoom}
 use Rattle.tree.proofs.Factors.{first}
 use Rattle.tree.proofs.ProductTree.{Gives}
 use Rattle.tree.proofs.put_product_tree.Given as goal
@@ -11,7 +11,7 @@ use Rattle.tree.proofs.put_product_tree.Given as goal
 abbrev pub invariant-loop-left : goal.invariant-loop-left
 invariant-loop-left l =
     (1 ≤ l.left)
-    × Room l.table l.current (l.left - 1)
-    × (l.current.next + l.left ≡ l.initial.current.next + length l.initial.nodes)
+    × HasRoom l.out (l.left - 1)
+    × (l.out.pen.next + l.left ≡ l.initial.out.pen.next + length l.initial.nodes)
     × Shallow l.left (first l.left l.nodes)
-    × Gives l.initial.table l.initial.current (map node_is l.initial.nodes) l.table l.current (first l.left l.nodes)
+    × Gives l.initial.out (map node_is l.initial.nodes) l.out (first l.left l.nodes)

@@ -1,12 +1,12 @@
 use Rattle.std.proofs.Common.{ap, arith}
 use Rattle.comparison.specs.Digits.{unless_lowest}
-use Rattle.writer.proofs.Writing.{same_gates}
+use Rattle.writer.proofs.Writing.{same_writes}
 use Rattle.powers.proofs.Modulus.{is_modulus}
 use Rattle.order.proofs.Digit.{flip_is, tests_length, tests_wrote}
 use Rattle.order.proofs.OrderTests.put_base_tests.Goals as goal
 
-pub put_powers-raised-requires : goal.put_powers-raised-requires
-put_powers-raised-requires c =
+pub put_powers-requires : goal.put_powers-requires
+put_powers-requires c =
     let a = c.args in
     let m = a.self.m in
     omega (arith, tests_length m.p a.j a.k (is_modulus m), c)
@@ -21,6 +21,6 @@ pub returns-clause-wrote : goal.returns-clause-wrote
 returns-clause-wrote c =
     let a = c.args in
     let p = a.self.m.p in
-    let q = c.put_powers-raised.ensures in
+    let q = c.put_powers.ensures in
     let flip = ap (unless_lowest a.j) (flip_is p a.k c.power_at-top.ensures.0) in
-    tests_wrote p a.j a.k c.requires.next_value q.wrote q.moves.0 c.put_terms-less.ensures.wrote (same_gates flip c.put_equal-equal.ensures.wrote)
+    tests_wrote p a.j a.k c.requires.next_value q.wrote q.moves.0 c.put_terms-less.ensures.wrote (same_writes flip c.put_equal-equal.ensures.wrote)

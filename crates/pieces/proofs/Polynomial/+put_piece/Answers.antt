@@ -10,22 +10,22 @@ pub put_terms-requires-clause-room : goal.put_terms-requires-clause-room
 put_terms-requires-clause-room t c =
     let a = c.args in
     let s = a.self in
-    rw (piece_terms s.m.p s.step s.z (coefficient s.m.p) a.level a.o a.pen.next (omega arith)) at c.requires.room
+    rw (piece_terms s.m.p s.step s.z (coefficient s.m.p) a.level a.o a.out.now.pen.next (omega arith)) at c.requires.room
 
 pub returns-then-level-eq0 : goal.returns-then-level-eq0
 returns-then-level-eq0 t c =
     let a = c.args in
     let s = a.self in
     let zero : a.level ≡ 0 = omega arith in
-    let terms = piece_terms s.m.p s.step s.z (coefficient s.m.p) a.level a.o a.pen.next zero in
-    let e = c.put_terms.ensures in record { wrote = rw terms e.wrote; moves = rw terms e.moves; sums = rw terms e.sums }
+    let terms = piece_terms s.m.p s.step s.z (coefficient s.m.p) a.level a.o a.out.now.pen.next zero in
+    let e = c.put_terms.ensures in record { wrote = rw terms e.wrote; sums = rw terms e.sums }
 
 pub put_piece-low-requires : goal.put_piece-low-requires
 put_piece-low-requires t c =
     let a = c.args in
     let s = a.self in
     let some : 1 ≤ a.level = omega arith in
-    let room = piece_room s.m.p s.step s.z (coefficient s.m.p) a.level a.o a.span a.pen.next c.requires.spanned some in
+    let room = piece_room s.m.p s.step s.z (coefficient s.m.p) a.level a.o a.span a.out.now.pen.next c.requires.spanned some in
     (omega (arith, c.decreases), (omega (arith, room, c.requires.room), lower_span s.step a.level a.o a.span c.requires.spanned some))
 
 pub put_piece-high-requires : goal.put_piece-high-requires
@@ -33,8 +33,8 @@ put_piece-high-requires t c =
     let a = c.args in
     let s = a.self in
     let some : 1 ≤ a.level = omega (arith, c) in
-    let room = piece_room s.m.p s.step s.z (coefficient s.m.p) a.level a.o a.span a.pen.next c.requires.spanned some in
-    let e = rw (← c.put_piece-low.ensures.wrote.number) at room in (
+    let room = piece_room s.m.p s.step s.z (coefficient s.m.p) a.level a.o a.span a.out.now.pen.next c.requires.spanned some in
+    let e = rw (← c.put_piece-low.ensures.wrote.wrote.number) at room in (
       omega (arith, c.decreases, some),
       (omega (arith, e, c.requires.room, c.put_piece-low.ensures), upper_span s.step a.level a.o a.span c.requires.spanned some),
     )
@@ -51,16 +51,16 @@ put_last-requires t c =
     let s = a.self in
     let some : 1 ≤ a.level = omega (arith, c) in
     let power = c.split_power-power in
-    let room = piece_room s.m.p s.step s.z (coefficient s.m.p) a.level a.o a.span a.pen.next c.requires.spanned some in
+    let room = piece_room s.m.p s.step s.z (coefficient s.m.p) a.level a.o a.span a.out.now.pen.next c.requires.spanned some in
     let l = c.put_piece-low.ensures in
     let h = c.put_piece-high.ensures in
-    let e = rw (← l.wrote.number, ← h.wrote.number, ← l.sums, ← h.sums, ← power.ensures.0) at room in
-    let shallow = rw (← h.sums) at (piece_shallow s.m.p s.step s.z (coefficient s.m.p) (a.level - 1) (a.o + a.span / 2) c.put_piece-low.result.pen.next) in
+    let e = rw (← l.wrote.wrote.number, ← h.wrote.wrote.number, ← l.sums, ← h.sums, ← power.ensures.0) at room in
+    let shallow = rw (← h.sums) at (piece_shallow s.m.p s.step s.z (coefficient s.m.p) (a.level - 1) (a.o + a.span / 2) c.put_piece-low.new.out.pen.next) in
     let few = level_few s.step a.level a.o a.span c.requires.spanned s.is_step.0 in
     let deep = (clog_is_ceiling s.step 8).0 (omega (arith, s.is_step, s.m)) in
     record {
       room = omega (arith, e, c.requires.room, l, h);
-      depth_lt_most_gates = (power.ensures.1, shallow_at_most _ _ (sum_is c.put_piece-high.result.sum) (omega (arith, deep, few)) shallow);
+      depth_lt_most_gates = (power.ensures.1, shallow_at_most _ _ (sum_is c.put_piece-high.result) (omega (arith, deep, few)) shallow);
     }
 
 pub returns : goal.returns
@@ -74,4 +74,4 @@ returns t c =
     let power = c.split_power-power.ensures.0 in
     let all = piece_written s.m.p s.step s.z (coefficient s.m.p) a.level a.o a.span c.requires.spanned some
     l.wrote l.sums h.wrote h.sums (rw power at last.ensures.wrote) (rw power at last.ensures.sums) in
-    record { wrote = all.0; moves = omega (arith, all.0.number, last.ensures.moves); sums = all.1 }
+    record { wrote = all.0; sums = all.1 }

@@ -1,5 +1,5 @@
 use Rattle.std.proofs.Common.{sym, ◌∙◌, arith, eqb-true, ltb-true}
-use borrow.Author.Tests.{eqb-false}
+use Rattle.std.proofs.lemmas.Bool.{eqb-false}
 use Rattle.powers.proofs.Modulus.{is_modulus}
 use Rattle.pieces.proofs.Coefficients.{bits_even, bits_above, bits_last, bits_below}
 use Rattle.pieces.proofs.Polynomial.coefficient_at.Goals.{then-e-top-via-then-e-top, then-e-top-via-else-e-top+then-e-eq1, then-e-top-2, else-e-top-2}
