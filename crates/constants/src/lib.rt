@@ -25,24 +25,24 @@ pub fn bits_of(x: u16, p: u8) -> u16
     ((moved + 0x10000 - u32::from(half)) % 0x10000) as u16
 }
 
-// An odd modulus, and how often it goes into 65,536. With that a remainder takes two products and no division.
+// A modulus from 2 on, and how often it goes into 65,536. With that a remainder takes two products and no division.
 #[derive(Clone, Copy)]
 struct Reducer {
     p: u8,
     reciprocal: u16,
-    ghost least: { 3 ≤ p },
-    ghost odd: { p % 2 ≡ 1 },
+    ghost least: { 2 ≤ p },
     ghost quotient: { reciprocal ≡ 65536 / p },
 }
 
 impl Reducer {
     // The reducer of a modulus.
-    fn of(m: Modulus) -> Reducer
-        ensures { result.p ≡ m.p }
+    fn of(p: u8) -> Reducer
+        requires { 2 ≤ p }
+        ensures { result.p ≡ p }
     {
         Reducer {
-            p: m.p as u8,
-            reciprocal: (65536 / u32::from(m.p)) as u16,
+            p,
+            reciprocal: (65536 / u32::from(p)) as u16,
         }
     }
 
@@ -109,7 +109,7 @@ fn sum_of(list: &[u8]) -> u16
 // Puts the constants of the odd exponents below p at the start of constants, from the last one down. The powers b^1, b^3, .. go up by
 // a factor b^2 each time, so that a constant takes one product and one addition for each b.
 fn put_odd_constants(reducer: Reducer, powers: &mut [u8], squares: &[u8], constants: &mut [u16])
-    requires { (powers.old ≡ powers_mod reducer.p 1 (reducer.p / 2)) × (squares.now ≡ powers_mod reducer.p 2 (reducer.p / 2)) × (reducer.p / 2 ≤ length constants.old) }
+    requires { (powers.old ≡ powers_mod reducer.p 1 (reducer.p / 2)) × (squares.now ≡ powers_mod reducer.p 2 (reducer.p / 2)) × (reducer.p / 2 ≤ length constants.old) × (reducer.p % 2 ≡ 1) }
     ensures { constants.new ≡ odd_bits reducer.p ++ drop (reducer.p / 2) constants.old }
 {
     for k in (0..powers.len()).rev() {
@@ -123,7 +123,7 @@ pub fn put_order_constants(m: Modulus, constants: &mut [u16])
     requires { m.p / 2 + 1 ≤ length constants.old }
     ensures { constants.new ≡ map (bits_of m.p) (order_constants m.p) ++ drop (m.p / 2 + 1) constants.old }
 {
-    let reducer = Reducer::of(m);
+    let reducer = Reducer::of(m.p as u8);
     let p = reducer.p;
     let half = usize::from(p / 2);
     let mut powers = [0u8; MOST_CONSTANTS];

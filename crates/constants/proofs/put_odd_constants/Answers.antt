@@ -18,5 +18,5 @@ multiply_each-requires c =
 pub loop-k-preserved : goal.loop-k-preserved
 loop-k-preserved c =
     let p = c.args.reducer.p in
-    descend_one p _ _ _ c.loop-k.k _ c.args.squares.now _ c.args.reducer.odd c.requires.2 c.requires.1 (omega arith) c.loop-k.invariant
+    descend_one p _ _ _ c.loop-k.k _ c.args.squares.now _ c.requires.3 c.requires.2 c.requires.1 (omega arith) c.loop-k.invariant
     (c.bits_of.ensures ∙ ap (λ x. bits_of p (residue p x)) c.sum_of.ensures.0) c.multiply_each.ensures

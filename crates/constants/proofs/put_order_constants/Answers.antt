@@ -13,12 +13,13 @@ put_odd_constants-requires c =
           ∙ ap (powers_mod p 1) c.from-half.ensures,
       filled_part_is _ _ _ _ (omega arith) c.put_squares.ensures ∙ ap (powers_mod p 2) c.from-half.ensures,
       rw length-set (omega arith),
+      rw c.of-reducer.ensures c.args.m.odd,
     )
 
 pub returns : goal.returns
 returns c =
     let p = c.of-reducer.result.p in
     rw (← c.of-reducer.ensures)
-    (constants_with_last p c.of-reducer.result.odd c.from-half.result c.bits_of.result _ _ c.from-half.ensures
+    (constants_with_last p (rw c.of-reducer.ensures c.args.m.odd) c.from-half.result c.bits_of.result _ _ c.from-half.ensures
     (c.bits_of.ensures ∙ ap (bits_of p) (residue_small p _ (omega arith) ∙ c.from.ensures))
     (omega arith) c.put_odd_constants.ensures)
