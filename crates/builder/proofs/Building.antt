@@ -27,7 +27,6 @@ use Rattle.card.specs.Conditions.{ReadAs, conditions_of}
 use Rattle.card.specs.Parts.{Summary, summary, head_is, read_summary}
 use Rattle.card.proofs.ReadAs.{Known, known_as}
 use Rattle.writer.specs.declared.Written.{Written}
-use Rattle.powers.specs.declared.OrderTables.{OrderTables}
 use Rattle.draft.specs.Conditions.{Ready}
 use Rattle.draft.specs.Drawing.{Drawable, Drawn, Draws}
 use Rattle.builder.specs.Report.{report_is}
@@ -53,8 +52,8 @@ module _ (bytes lent : List ℕ) (head : CardHead) (told : Report) (e : ReadAs b
     room_told : table_room (table_of read.card) ≤ length lent
     room_told = omega (arith, room, gates_told)
 
-    pub drawable : {tables : OrderTables} → Ready head.prime (conditions_of bytes) tables → Drawable bytes (head_is head) 0 told.gates lent tables
-    drawable {tables} ready = record {
+    pub drawable : {constants depths : List ℕ} → Ready head.prime (conditions_of bytes) constants depths → Drawable bytes (head_is head) 0 told.gates lent constants depths
+    drawable {constants} {depths} ready = record {
       card = read.card;
       reads = read.reads;
       says = read.says;
@@ -63,7 +62,7 @@ module _ (bytes lent : List ℕ) (head : CardHead) (told : Report) (e : ReadAs b
       few = omega (arith, gates_told, (exact_size bytes read.card read.reads).1);
       room = room_told;
       ready =
-          subst (λ (s : Summary). Ready s.prime read.card.conditions tables) read.says (rw read.conditions at ready);
+          subst (λ (s : Summary). Ready s.prime read.card.conditions constants depths) read.says (rw read.conditions at ready);
     }
 
     -- what was written is the card's table

@@ -39,6 +39,6 @@ pub fn build(card: &[u8], table: &mut [u8]) -> Result<Report, Refusal>
         return Err(Refusal::TableBufferTooSmall);
     }
     let tables = draft::prepare_order(card);
-    let written = draft::write_table(card, 0, told.gates, table, &tables);
+    let written = draft::write_table(card, 0, told.gates, table, tables.lists());
     Ok(report_of(written, card.head.weight))
 }

@@ -28,7 +28,6 @@ use Rattle.card.specs.declared.CardHead.{CardHead}
 use Rattle.card.specs.Conditions.{ReadAs, conditions_of}
 use Rattle.card.specs.Parts.{Summary}
 use Rattle.card.proofs.ReadAs.{known_as}
-use Rattle.powers.specs.declared.OrderTables.{OrderTables}
 use Rattle.draft.specs.Conditions.{any_order, Ready}
 use Rattle.rating.specs.declared.OrderDigits.{OrderDigits}
 use Rattle.rating.specs.Rated.{Searching}
@@ -66,12 +65,12 @@ some_order (c ∷ cs) some = go (is_order c.relation) refl (some_order cs)
         ap (λ (b : Bool). b || any_order cs) e ∙ later (λ z. some (omega (arith, none, z)))
 
 -- what a search goes by, of a card that has an order digit
-pub searching : {bytes : List ℕ} {head : CardHead} {digits : OrderDigits} {equal : ℕ} {tables : OrderTables} (base : Report)
-    → Ready head.prime (conditions_of bytes) tables → accepted base ≡ forecasting bytes
+pub searching : {bytes : List ℕ} {head : CardHead} {digits : OrderDigits} {equal : ℕ} {constants depths : List ℕ} (base : Report)
+    → Ready head.prime (conditions_of bytes) constants depths → accepted base ≡ forecasting bytes
     → (digits.all ≡ order_digits (conditions_of bytes)) × (digits.higher ≡ higher_digits (conditions_of bytes))
     × (digits.all ≤ most_digits) × (digits.higher ≤ digits.all)
     → (digits.all ≡ 0 → ⊥) → (equal ≡ (equality_test head.prime).count) × (equal ≤ head.prime)
-    → Searching bytes head base.gates digits equal tables
+    → Searching bytes head base.gates digits equal constants depths
 searching {bytes} base ready told counted some tested = record {
   ground = λ card e. ap (λ (r : Report). r.gates) (base_told bytes card e base told);
   all = counted.0;

@@ -19,7 +19,7 @@ ghost use Rattle.chooser.specs.Kept.{choice_is, Kept};
 
 use answer::{Depth, Refusal, Report};
 use card::Card;
-use powers::OrderTables;
+use powers::OrderLists;
 use rating::{SCRATCH, Search};
 
 // A step size with the report on its table.
@@ -85,8 +85,8 @@ fn lowest(cap: Depth, base: Report) -> Option<Rated>
 }
 
 // The best step size of a card within a depth cap, by the report on its base table. A card without an order condition is not searched.
-pub fn best_step(card: Card<'_>, cap: Depth, base: Report, tables: &OrderTables) -> Option<Rated>
-    requires { Ready card.head.prime (conditions_of card.bytes.now) tables.now × (accepted (report_of base) ≡ forecasting card.bytes.now) }
+pub fn best_step(card: Card<'_>, cap: Depth, base: Report, tables: OrderLists<'_>) -> Option<Rated>
+    requires { Ready card.head.prime (conditions_of card.bytes.now) tables.constants.now tables.depths.now × (accepted (report_of base) ≡ forecasting card.bytes.now) }
     ensures { (c : CardIs) → read_card card.entry.bytes.now ≡ accepted c → (choice_is result ≡ best_step cap.0 c) × Kept c result }
 {
     let digits = rating::count_digits(card);

@@ -17,7 +17,7 @@ ghost use Rattle.condition.specs.Condition.{condition_is};
 
 use arithmetic::Modulus;
 use order::OrderTests;
-use powers::OrderTables;
+use powers::OrderLists;
 use relations::Relation;
 use writer::{Gate, Node, Slots, Writer};
 
@@ -45,11 +45,11 @@ pub fn put_condition(
     step: u16,
     relation: Relation,
     slots: Slots,
-    tables: &OrderTables,
+    tables: OrderLists<'_>,
 ) -> Node
     requires room { HasRoom out.old (length (condition_by (tests_by m.p step) m.p (condition_is relation slots) out.old.pen.next).gates) }
     requires suits { Suits m.p step × HasSlots most_digits most_digits (condition_is relation slots) }
-    requires prepared { (is_order (relation_is relation) ≡ true) → Prepared m.p tables.now }
+    requires prepared { (is_order (relation_is relation) ≡ true) → Prepared m.p tables.constants.now tables.depths.now }
     ensures wrote { Writes out.old (condition_by (tests_by m.p step) m.p (condition_is relation slots) out.old.pen.next).gates out.new }
     ensures output { node_is result ≡ (condition_by (tests_by m.p step) m.p (condition_is relation slots) out.old.pen.next).output }
 {

@@ -27,7 +27,6 @@ use Rattle.query.specs.Whole.{Draft, end_by, end_of, filled_by, table_by}
 use Rattle.query.proofs.AnyTests.{known, depth_told, end_has, outputs_low}
 use Rattle.card.specs.Conditions.{conditions_of}
 use Rattle.card.specs.Parts.{Summary, read_summary, slots_said}
-use Rattle.powers.specs.declared.OrderTables.{OrderTables}
 use Rattle.writer.specs.declared.Pen.{Pen}
 use Rattle.writer.specs.declared.Written.{Written}
 use Rattle.writer.specs.Pen.{fresh, Wrote}
@@ -86,8 +85,8 @@ module _ (bytes : List ℕ) (card : Card) (e : read_card bytes ≡ accepted card
 
 -- ---- the same in the terms of the code, which holds what the card says and the gate count
 
-module _ {bytes : List ℕ} {said : Summary} {step count : ℕ} {lent : List ℕ} {tables : OrderTables}
-    (b : Drawable bytes said step count lent tables) where
+module _ {bytes : List ℕ} {said : Summary} {step count : ℕ} {lent constants depths : List ℕ}
+    (b : Drawable bytes said step count lent constants depths) where
   abbrev head_of : SlotCounts → Head
   head_of slots = record { prime = said.prime; weight = said.weight; slots = slots }
 
@@ -105,7 +104,7 @@ module _ {bytes : List ℕ} {said : Summary} {step count : ℕ} {lent : List ℕ
   pub suits_said : Suits said.prime step
   suits_said = rw b.says b.suits
 
-  pub ready_said : Ready said.prime (conditions_of bytes) tables
+  pub ready_said : Ready said.prime (conditions_of bytes) constants depths
   ready_said = rw (b.says, b.reads) b.ready
 
   abbrev draft_said : Draft

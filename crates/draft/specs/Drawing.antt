@@ -10,7 +10,6 @@ use Rattle.query.specs.Outcomes.{table_room}
 use Rattle.query.specs.Reading.{read_card}
 use Rattle.query.specs.Whole.{table_by}
 use Rattle.card.specs.Parts.{Summary, summary}
-use Rattle.powers.specs.declared.OrderTables.{OrderTables}
 use Rattle.writer.specs.declared.Written.{Written}
 use Rattle.draft.specs.Conditions.{Ready}
 
@@ -20,7 +19,7 @@ table_for step card = table_by (tests_by card.prime step) card
 
 -- bytes that are a card, what they say, a step size of its prime or none, the gate count of its table, lent bytes that have room for it,
 -- and what order digits go by
-pub record Drawable (bytes : List ℕ) (said : Summary) (step count : ℕ) (lent : List ℕ) (tables : OrderTables) : Type 0 where
+pub record Drawable (bytes : List ℕ) (said : Summary) (step count : ℕ) (lent constants depths : List ℕ) : Type 0 where
   pub card : Card
   pub reads : read_card bytes ≡ accepted card
   pub says : said ≡ summary card
@@ -28,7 +27,7 @@ pub record Drawable (bytes : List ℕ) (said : Summary) (step count : ℕ) (lent
   pub gates : count ≡ length (table_for step card).gates
   pub few : count ≤ most_gates
   pub room : table_room (table_for step card) ≤ length lent
-  pub ready : Ready card.prime card.conditions tables
+  pub ready : Ready card.prime card.conditions constants depths
 
 -- the lent bytes begin with the table and are as they were after it; its gates, products and squares are counted, each record for itself,
 -- and its depth is that of the node

@@ -16,7 +16,7 @@ ghost use Rattle.tree.specs.Factors.{Shallow};
 use arithmetic::Modulus;
 use card::{Card, MOST_CONDITIONS, Question};
 use condition::put_condition;
-use powers::OrderTables;
+use powers::{OrderLists, OrderTables};
 use writer::{Gate, Node, Pen, Slots, Writer, Written};
 
 // The prime of a card.
@@ -34,10 +34,10 @@ fn put_conditions(
     card: Card<'_>,
     step: u16,
     out: &mut Writer,
-    tables: &OrderTables,
+    tables: OrderLists<'_>,
     outputs: &mut [Node],
 )
-    requires { Writable card.bytes.now card.head step out.old tables.now outputs.old }
+    requires { Writable card.bytes.now card.head step out.old tables.constants.now tables.depths.now outputs.old }
     ensures wrote { Writes out.old (drafted card.entry.head.prime step (conditions_of card.entry.bytes.now)).gates out.new }
     ensures outputs { map node_is outputs.new ≡ (drafted card.entry.head.prime step (conditions_of card.entry.bytes.now)).outputs }
 {
@@ -63,7 +63,7 @@ fn has_order(card: Card<'_>) -> bool
 
 // What order digits go by, which only conditions with an order relation ask for.
 pub fn prepare_order(card: Card<'_>) -> OrderTables
-    ensures { Ready card.entry.head.prime (conditions_of card.entry.bytes.now) result }
+    ensures { Ready card.entry.head.prime (conditions_of card.entry.bytes.now) result.constants result.depths }
 {
     let mut tables = OrderTables::new();
     if has_order(card) {
@@ -114,9 +114,9 @@ pub fn write_table(
     step: u16,
     count: u16,
     table: &mut [u8],
-    tables: &OrderTables,
+    tables: OrderLists<'_>,
 ) -> Written
-    requires { Drawable card.bytes.now (head_is card.head) step count table.old tables.now }
+    requires { Drawable card.bytes.now (head_is card.head) step count table.old tables.constants.now tables.depths.now }
     ensures { Draws card.entry.bytes.now step table.old table.new result }
 {
     let mut nodes = [Node { gate: 0, depth: 0 }; MOST_CONDITIONS];

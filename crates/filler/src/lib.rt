@@ -91,7 +91,7 @@ pub fn finish(state: &mut BuildState, table: &mut [u8]) -> Result<Report, Refusa
 
 // What order digits go by, where the relation is one that asks for it.
 fn tables_for(relation: Relation, m: Modulus) -> OrderTables
-    ensures { (is_order (relation_is relation) ≡ true) → Prepared m.p result }
+    ensures { (is_order (relation_is relation) ≡ true) → Prepared m.p result.constants result.depths }
 {
     let mut tables = OrderTables::new();
     if relation.is_order() {
@@ -133,7 +133,7 @@ fn write_condition(
         table,
         pen: state.pen(),
     };
-    let node = condition::put_condition(&mut out, m, 0, relation, slots, &tables);
+    let node = condition::put_condition(&mut out, m, 0, relation, slots, tables.lists());
     let pen = out.pen;
     state.grow(digits, Written { pen, node });
 }

@@ -20,7 +20,7 @@ ghost use Rattle.powers.specs.Prepared.{Prepared};
 ghost use Rattle.order.specs.Slots.{order_condition, digits_by};
 
 use arithmetic::Modulus;
-use powers::OrderTables;
+use powers::OrderLists;
 use writer::{Gate, Node, Slots, Tests, Writer};
 
 // The tests of order digits: of a modulus, by a step size or, where that is 0, document 01's, over prepared tables.
@@ -28,9 +28,9 @@ use writer::{Gate, Node, Slots, Tests, Writer};
 pub struct OrderTests<'a> {
     pub m: Modulus,
     pub step: u16,
-    pub tables: &'a OrderTables,
+    pub tables: OrderLists<'a>,
     ghost suits: { Suits m.p step },
-    ghost prepared: { Prepared m.p tables.now },
+    ghost prepared: { Prepared m.p tables.constants.now tables.depths.now },
 }
 
 impl OrderTests<'_> {
@@ -50,11 +50,11 @@ impl OrderTests<'_> {
         };
         out.put(Gate::Scale(z, tables.constants[0]));
         for i in 1..half {
-            let power = tables.power_at(self.m, z, 2 * i + 1);
+            let power = tables.power_at(p, z, 2 * i + 1);
             let constant = tables.constants[usize::from(i)];
             sum = out.add_term(sum, power, constant);
         }
-        let top = tables.power_at(self.m, z, p - 1);
+        let top = tables.power_at(p, z, p - 1);
         let constant = tables.constants[usize::from(half)];
         out.add_term(sum, top, constant)
     }
@@ -70,7 +70,7 @@ impl OrderTests<'_> {
         let z = k + 2;
         powers::put_powers(out, z, self.m);
         let less = self.put_terms(out, z);
-        let top = self.tables.power_at(self.m, z, self.m.p - 1);
+        let top = self.tables.power_at(self.m.p, z, self.m.p - 1);
         let equal = put_equal(out, j, top);
         Tests { less, equal }
     }

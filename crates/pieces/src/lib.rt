@@ -16,7 +16,7 @@ ghost use Rattle.pieces.specs.Sums.{sum_is, next_of, Shallow};
 ghost use Rattle.pieces.specs.Sizes.{Spanned};
 
 use arithmetic::Modulus;
-use powers::OrderTables;
+use powers::OrderLists;
 use writer::{Gate, Node, Writer};
 
 // The polynomial of L over the powers of the gate z, which its pieces write by a step size.
@@ -25,10 +25,10 @@ pub struct Polynomial<'a> {
     pub m: Modulus,
     pub step: u16,
     pub z: u16,
-    pub tables: &'a OrderTables,
+    pub tables: OrderLists<'a>,
     ghost is_step: { IsStep m.p step },
     ghost low: { z ≤ most_gates },
-    ghost prepared: { Prepared m.p tables.now },
+    ghost prepared: { Prepared m.p tables.constants.now tables.depths.now },
 }
 
 impl Polynomial<'_> {
@@ -52,7 +52,7 @@ impl Polynomial<'_> {
     {
         let mut sum = None;
         for e in 1..self.step + 1 {
-            let power = self.tables.power_at(self.m, self.z, e);
+            let power = self.tables.power_at(self.m.p, self.z, e);
             let bits = self.coefficient_at(o + e);
             sum = next_term(out, sum, power, bits);
         }
@@ -64,7 +64,7 @@ impl Polynomial<'_> {
         requires { i < 2 * byte_values }
         ensures { (node_is result ≡ split_node self.entry.z self.entry.step i) × (result.depth < most_gates) }
     {
-        let first = self.tables.power_at(self.m, self.z, self.step);
+        let first = self.tables.power_at(self.m.p, self.z, self.step);
         Node {
             gate: first.gate + i,
             depth: first.depth + i,

@@ -32,7 +32,6 @@ use Rattle.card.specs.Conditions.{ReadAs, conditions_of}
 use Rattle.card.specs.Parts.{Summary, head_is}
 use Rattle.card.proofs.ReadAs.{Known, known_as}
 use Rattle.powers.specs.Prepared.{Prepared}
-use Rattle.powers.specs.declared.OrderTables.{OrderTables}
 use Rattle.draft.specs.Drawing.{table_for, Drawable}
 use Rattle.rating.specs.declared.OrderDigits.{OrderDigits}
 use Rattle.rating.specs.Rated.{rated, Searching}
@@ -43,8 +42,8 @@ told_by : (L G a h e b p q step : ℕ) (cs ds : List Condition) → a ≡ order_
     → L + (a * less_count p + h) ≡ b + (a * (step_less p step).count + h * e)
 told_by L G a h e b p q step cs ds all higher same prime tested ground law = rw (all, higher, tested, ground, same, prime) law
 
-module _ {bytes : List ℕ} {head : CardHead} {base : ℕ} {digits : OrderDigits} {equal : ℕ} {tables : OrderTables} {step : ℕ} (read : ReadAs bytes head)
-    (s : Searching bytes head base digits equal tables) (is : IsStep head.prime step) where
+module _ {bytes : List ℕ} {head : CardHead} {base : ℕ} {digits : OrderDigits} {equal : ℕ} {constants depths : List ℕ} {step : ℕ} (read : ReadAs bytes head)
+    (s : Searching bytes head base digits equal constants depths) (is : IsStep head.prime step) where
   pub known : Known bytes head
   known = known_as bytes head read
 
@@ -75,8 +74,8 @@ module _ {bytes : List ℕ} {head : CardHead} {base : ℕ} {digits : OrderDigits
   table_is : table_for step card ≡ step_table card step
   table_is = ap (λ t. table_by t card) (by_step card.prime step step_is.0)
 
-  pub drawable : {count : ℕ} {lent : List ℕ} → count ≡ length (step_table card step).gates → count ≤ most_gates → length lent ≡ 8 * (most_gates + 1)
-      → Drawable bytes (head_is head) step count lent tables
+  pub drawable : {count : ℕ} {lent : List ℕ} → count ≡ length (step_table card step).gates → count ≤ most_gates → 8 * (most_gates + 1) ≤ length lent
+      → Drawable bytes (head_is head) step count lent constants depths
   drawable {count} {lent} e few long = record {
     card = card;
     reads = known.reads;
@@ -85,7 +84,7 @@ module _ {bytes : List ℕ} {head : CardHead} {base : ℕ} {digits : OrderDigits
     gates = e ∙ ap (λ (t : Table). length t.gates) (sym table_is);
     few = few;
     room = omega (arith, e, few, long, ap (λ (t : Table). length t.gates) table_is);
-    ready = λ order. subst (λ (p : ℕ). Prepared p tables) prime_is s.prepared;
+    ready = λ order. subst (λ (p : ℕ). Prepared p constants depths) prime_is s.prepared;
   }
 
   -- ---- the rating, of whichever card the bytes are

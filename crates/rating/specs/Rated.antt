@@ -11,7 +11,6 @@ use Rattle.query.specs.Reading.{read_card}
 use Rattle.query.specs.Whole.{table_of}
 use Rattle.offer.specs.Offer.{step_table}
 use Rattle.powers.specs.Prepared.{Prepared}
-use Rattle.powers.specs.declared.OrderTables.{OrderTables}
 use Rattle.card.specs.declared.CardHead.{CardHead}
 use Rattle.card.specs.Conditions.{conditions_of}
 use Rattle.rating.specs.declared.OrderDigits.{OrderDigits}
@@ -24,10 +23,10 @@ rated card step = refuse (ltb most_gates (length (step_table card step).gates)) 
 -- ---- what rating a step size goes by
 
 -- of a card that was read, the gate count of its base table, its order digits, how many gates E of a digit has, and what order digits go by
-pub record Searching (bytes : List ℕ) (head : CardHead) (base : ℕ) (digits : OrderDigits) (equal : ℕ) (tables : OrderTables) : Type 0 where
+pub record Searching (bytes : List ℕ) (head : CardHead) (base : ℕ) (digits : OrderDigits) (equal : ℕ) (constants depths : List ℕ) : Type 0 where
   pub ground : (card : Card) → read_card bytes ≡ accepted card → base ≡ length (table_of card).gates
   pub all : digits.all ≡ order_digits (conditions_of bytes)
   pub higher : digits.higher ≡ higher_digits (conditions_of bytes)
   pub few : (digits.all ≤ most_digits) × (digits.higher ≤ digits.all)
   pub tested : (equal ≡ (equality_test head.prime).count) × (equal ≤ head.prime)
-  pub prepared : Prepared head.prime tables
+  pub prepared : Prepared head.prime constants depths

@@ -1,10 +1,11 @@
 // Rating a step size: its table is written into a scratch table, and Check's report on it tells.
 #![tactic(auto)]
 
-ghost use Rattle.std.specs.Prelude.{◌≡◌, true, false, ◌+◌, ◌-◌, ◌*◌, ◌≤◌};
+ghost use Rattle.std.specs.Prelude.{◌≡◌, true, false, ◌+◌, ◌-◌, ◌*◌, ◌≤◌, length};
 ghost use Rattle.answer.specs.Outcome.{accepted};
 ghost use Rattle.answer.specs.Report.{report_answer};
 ghost use Rattle.digits.specs.Number.{most_digits};
+ghost use Rattle.circuit.specs.Table.{most_gates};
 ghost use Rattle.comparison.specs.OrderDigit.{less_count};
 ghost use Rattle.comparison.specs.Relation.{is_order};
 ghost use Rattle.comparison.specs.Tests.{equality_test};
@@ -20,7 +21,7 @@ ghost use Rattle.rating.specs.Rated.{rated, Searching};
 use answer::{Refusal, Report};
 use arithmetic::Modulus;
 use card::Card;
-use powers::OrderTables;
+use powers::OrderLists;
 use records::{MOST_GATES, RECORD};
 use relations::Relation;
 use writer::{Pen, Writer};
@@ -43,8 +44,8 @@ pub struct Search<'a> {
     pub base: u16,
     pub digits: OrderDigits,
     pub equal: u16,
-    pub tables: &'a OrderTables,
-    pub ghost known: { Searching card.bytes.now card.head base digits equal tables.now },
+    pub tables: OrderLists<'a>,
+    pub ghost known: { Searching card.bytes.now card.head base digits equal tables.constants.now tables.depths.now },
 }
 
 // The order digits of a condition.
@@ -87,8 +88,8 @@ fn second_gate() -> Pen
 }
 
 // How many gates L of a digit has for a step size: it is written once, and the pen tells.
-fn count_less(table: &mut [u8; SCRATCH], m: Modulus, step: u16, tables: &OrderTables) -> u16
-    requires { IsStep m.p step × Prepared m.p tables.now }
+fn count_less(table: &mut [u8], m: Modulus, step: u16, tables: OrderLists<'_>) -> u16
+    requires { (8 * (most_gates + 1) ≤ length table.old) × IsStep m.p step × Prepared m.p tables.constants.now tables.depths.now }
     ensures { (result ≡ (step_less m.p step).count) × (result ≤ 11 * m.p) }
 {
     let mut out = Writer {
@@ -100,7 +101,8 @@ fn count_less(table: &mut [u8; SCRATCH], m: Modulus, step: u16, tables: &OrderTa
 }
 
 // How many gates E of a digit has, for every step size.
-pub fn count_equal(table: &mut [u8; SCRATCH], m: Modulus) -> u16
+pub fn count_equal(table: &mut [u8], m: Modulus) -> u16
+    requires { 8 * (most_gates + 1) ≤ length table.old }
     ensures { (result ≡ (equality_test m.p).count) × (result ≤ m.p) }
 {
     let mut out = Writer {
@@ -126,8 +128,8 @@ fn count_gates(m: Modulus, base: u16, digits: OrderDigits, less: u16, equal: u16
 
 impl<'a> Search<'a> {
     // The report on the table of a step size, or 14 where its gates are too many for a table. The table is lent to work in.
-    pub fn rate(self, step: u16, table: &mut [u8; SCRATCH]) -> Result<Report, Refusal>
-        requires { IsStep self.card.head.prime step }
+    pub fn rate(self, step: u16, table: &mut [u8]) -> Result<Report, Refusal>
+        requires { (8 * (most_gates + 1) ≤ length table.old) × IsStep self.card.head.prime step }
         ensures { (c : CardIs) → read_card self.entry.card.bytes.now ≡ accepted c → report_answer result ≡ rated c step }
     {
         let m = draft::modulus_of(self.card);

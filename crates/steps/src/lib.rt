@@ -16,7 +16,7 @@ ghost use Rattle.powers.specs.Prepared.{Provided};
 
 use arithmetic::Modulus;
 use pieces::Polynomial;
-use powers::OrderTables;
+use powers::OrderLists;
 use writer::{Gate, Node, Tests, Writer};
 
 // How often a step size is doubled until it reaches p-1, and what it is then.
@@ -54,8 +54,8 @@ fn put_squares(out: &mut Writer, n: u16)
 }
 
 // L of the gate z before the pen: z^2 to z^step, the squares up to the highest split, and the whole polynomial as one piece.
-pub fn put_step_less(out: &mut Writer, m: Modulus, step: u16, tables: &OrderTables) -> Node
-    requires provided { Provided out.old (step_gates m.p step (out.old.pen.next - 1)) m.p tables.now }
+pub fn put_step_less(out: &mut Writer, m: Modulus, step: u16, tables: OrderLists<'_>) -> Node
+    requires provided { Provided out.old (step_gates m.p step (out.old.pen.next - 1)) m.p tables.constants.now tables.depths.now }
     requires le_next { (1 ≤ out.old.pen.next) × IsStep m.p step }
     ensures wrote { Writes out.old (step_gates m.p step (out.old.pen.next - 1)) out.new }
     ensures output { (result.gate + 1 ≡ out.new.pen.next) × (result.depth ≡ (step_less m.p step).depth) }
@@ -90,9 +90,9 @@ pub fn put_step_tests(
     m: Modulus,
     step: u16,
     j: u16,
-    tables: &OrderTables,
+    tables: OrderLists<'_>,
 ) -> Tests
-    requires provided { Provided out.old (order_tests (step_tests m.p step) j k) m.p tables.now }
+    requires provided { Provided out.old (order_tests (step_tests m.p step) j k) m.p tables.constants.now tables.depths.now }
     requires next_value { (out.old.pen.next ≡ k + 3) × IsStep m.p step }
     ensures wrote { Writes out.old (order_tests (step_tests m.p step) j k) out.new }
     ensures less { node_is result.less ≡ less_node (step_tests m.p step) k }

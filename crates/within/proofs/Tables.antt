@@ -29,7 +29,6 @@ use Rattle.card.specs.declared.CardHead.{CardHead}
 use Rattle.card.specs.Conditions.{ReadAs, conditions_of}
 use Rattle.card.specs.Parts.{Summary, head_is}
 use Rattle.card.proofs.ReadAs.{known_as}
-use Rattle.powers.specs.declared.OrderTables.{OrderTables}
 use Rattle.draft.specs.Conditions.{Ready}
 use Rattle.draft.specs.Drawing.{table_for, Drawable}
 use Rattle.within.specs.declared.Offered.{Offered}
@@ -128,12 +127,12 @@ pub base_told : (bytes : List ℕ) (told : declared.Report) (card : Card) → ac
     → read_card bytes ≡ accepted card → report_of told ≡ report (table_of card)
 base_told bytes told card f e = accepted_same (rw e at f)
 
-module _ (bytes lent : List ℕ) (tables : OrderTables) (head : CardHead) (read : ReadAs bytes head)
-    (ready : Ready head.prime (conditions_of bytes) tables) where
+module _ (bytes lent constants depths : List ℕ) (head : CardHead) (read : ReadAs bytes head)
+    (ready : Ready head.prime (conditions_of bytes) constants depths) where
   -- with any step size, or none
   drawable : (step count : ℕ) → Suits head.prime step
       → ((card : Card) → read_card bytes ≡ accepted card → (count ≡ length (table_for step card).gates) × (count ≤ most_gates))
-      → ltb (length lent) (8 * (count + 1)) ≡ false → Drawable bytes (head_is head) step count lent tables
+      → ltb (length lent) (8 * (count + 1)) ≡ false → Drawable bytes (head_is head) step count lent constants depths
   drawable step count suits counted room =
       let known = known_as bytes head read in
       let many = counted known.card known.reads in
@@ -146,11 +145,11 @@ module _ (bytes lent : List ℕ) (tables : OrderTables) (head : CardHead) (read 
         few = many.1;
         room = subst (λ (n : ℕ). 8 * (n + 1) ≤ length lent) many.0 (ltb-false _ _ room);
         ready =
-            subst (λ (s : Summary). Ready s.prime known.card.conditions tables) known.says (rw known.conditions at ready);
+            subst (λ (s : Summary). Ready s.prime known.card.conditions constants depths) known.says (rw known.conditions at ready);
       }
 
   pub base_drawable : (told : declared.Report) → accepted (report_of told) ≡ forecasting bytes → ltb (length lent) (8 * (told.gates + 1)) ≡ false
-      → Drawable bytes (head_is head) 0 told.gates lent tables
+      → Drawable bytes (head_is head) 0 told.gates lent constants depths
   base_drawable told f room =
       drawable 0 told.gates (record { low = zero-le })
       (λ card e. let many : told.gates ≡ length (table_of card).gates = ap (λ (r : Report). r.gates) (base_told bytes told card f e) in
@@ -159,7 +158,7 @@ module _ (bytes lent : List ℕ) (tables : OrderTables) (head : CardHead) (read 
 
   pub step_drawable : (told : declared.Report) (step : ℕ) → IsStep head.prime step
       → ((card : Card) → read_card bytes ≡ accepted card → (report_of told ≡ report (step_table card step)) × (length (step_table card step).gates ≤ most_gates))
-      → ltb (length lent) (8 * (told.gates + 1)) ≡ false → Drawable bytes (head_is head) step told.gates lent tables
+      → ltb (length lent) (8 * (told.gates + 1)) ≡ false → Drawable bytes (head_is head) step told.gates lent constants depths
   step_drawable told step is known room =
       drawable step told.gates (record { low = is.1 })
       (λ card e. let many : told.gates ≡ length (step_table card step).gates = ap (λ (r : Report). r.gates) (known card e).0 in

@@ -20,7 +20,7 @@ ghost use Rattle.within.specs.Handed.{read_plain_summary, handed, handed_answer,
 use answer::{Depth, Refusal, Report};
 use card::{Card, Form};
 use chooser::Rated;
-use powers::OrderTables;
+use powers::OrderLists;
 use records::RECORD;
 
 // Of which lent table a part is handed back, with the report on that table.
@@ -58,9 +58,9 @@ fn base_alone(
     cap: Depth,
     base: Report,
     first: &mut [u8],
-    tables: &OrderTables,
+    tables: OrderLists<'_>,
 ) -> Result<Offered, Refusal>
-    requires { Ready card.head.prime (conditions_of card.bytes.now) tables.now × (accepted (report_of base) ≡ forecasting card.bytes.now) }
+    requires { Ready card.head.prime (conditions_of card.bytes.now) tables.constants.now tables.depths.now × (accepted (report_of base) ≡ forecasting card.bytes.now) }
     ensures { (c : CardIs) (second : List ℕ) → read_card card.entry.bytes.now ≡ accepted c → Leaves (base_alone cap.0 (table_of c) first.old second) result first.new second }
 {
     if cap.0 < base.depth.0 {
@@ -93,9 +93,9 @@ fn both_tables(
     best: Rated,
     first: &mut [u8],
     second: &mut [u8],
-    tables: &OrderTables,
+    tables: OrderLists<'_>,
 ) -> Result<Offered, Refusal>
-    requires ready { Ready card.head.prime (conditions_of card.bytes.now) tables.now × (accepted (report_of base) ≡ forecasting card.bytes.now) }
+    requires ready { Ready card.head.prime (conditions_of card.bytes.now) tables.constants.now tables.depths.now × (accepted (report_of base) ≡ forecasting card.bytes.now) }
     requires step { IsStep card.head.prime best.step × ((c : CardIs) → read_card card.bytes.now ≡ accepted c → (report_of best.told ≡ reportOn (step_table c best.step)) × (length (step_table c best.step).gates ≤ most_gates)) }
     ensures { (c : CardIs) → read_card card.entry.bytes.now ≡ accepted c → Leaves (both_tables cap.0 (table_of c) (step_table c best.step) first.old second.old) result first.new second.new }
 {
@@ -119,9 +119,10 @@ fn offer_read(
 {
     let base = forecast::forecast_read(card);
     let tables = draft::prepare_order(card);
-    match chooser::best_step(card, cap, base, &tables) {
-        None => base_alone(card, cap, base, first, &tables),
-        Some(best) => both_tables(card, cap, base, best, first, second, &tables),
+    let lists = tables.lists();
+    match chooser::best_step(card, cap, base, lists) {
+        None => base_alone(card, cap, base, first, lists),
+        Some(best) => both_tables(card, cap, base, best, first, second, lists),
     }
 }
 

@@ -21,7 +21,9 @@ returns-then-table-from c =
 pub write_table-written-requires : goal.write_table-written-requires
 write_table-written-requires c =
     let card = c.in_ok-card.card in
-    drawable card.bytes.now c.args.table.now card.head _ card.read c.forecast_read-told.ensures (omega (arith, c.if-table-from.false, c.from.ensures)) c.prepare_order-tables.ensures
+    rw (c.lists.ensures.0, c.lists.ensures.1)
+    (drawable card.bytes.now c.args.table.now card.head _ card.read c.forecast_read-told.ensures (omega (arith, c.if-table-from.false, c.from.ensures))
+    c.prepare_order-tables.ensures)
 
 pub report_of-requires : goal.report_of-requires
 report_of-requires c =

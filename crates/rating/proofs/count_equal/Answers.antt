@@ -12,7 +12,7 @@ pub put_zero_test-requires : goal.put_zero_test-requires
 put_zero_test-requires c =
     let m = c.args.m in
     let f = few m.p (m.least, m.odd, m.byte) in
-    (omega (arith, f, c.second_gate.ensures), omega (arith, f, c.second_gate.ensures), omega (arith, c.second_gate.ensures), omega (arith, c.second_gate.ensures))
+    (omega (arith, f, c.requires, c.second_gate.ensures), omega (arith, f, c.second_gate.ensures), omega (arith, c.second_gate.ensures), omega (arith, c.second_gate.ensures))
 
 pub returns : goal.returns
 returns c =

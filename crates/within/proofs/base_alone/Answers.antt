@@ -7,4 +7,4 @@ pub write_table-requires : goal.write_table-requires
 write_table-requires c =
     let a = c.args in
     let room : ltb (length a.first.now) (8 * (a.base.gates + 1)) ≡ false = le-ltb _ _ (rw c.size_of.ensures at c.if-first-size_of.false) in
-    base_drawable a.card.bytes.now a.first.now a.tables.now a.card.head a.card.read c.requires.0 a.base c.requires.1 room
+    base_drawable a.card.bytes.now a.first.now _ _ a.card.head a.card.read c.requires.0 a.base c.requires.1 room

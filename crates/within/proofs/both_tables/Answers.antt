@@ -25,13 +25,13 @@ pub write_table-requires : goal.write_table-requires
 write_table-requires c =
     let a = c.args in
     let room : ltb (length a.first.now) (8 * (a.base.gates + 1)) ≡ false = le-ltb _ _ (rw c.size_of.ensures at c.if-first-size_of.false) in
-    base_drawable a.card.bytes.now a.first.now a.tables.now a.card.head a.card.read c.requires.ready.0 a.base c.requires.ready.1 room
+    base_drawable a.card.bytes.now a.first.now _ _ a.card.head a.card.read c.requires.ready.0 a.base c.requires.ready.1 room
 
 pub write_table-requires-2 : goal.write_table-requires-2
 write_table-requires-2 c =
     let a = c.args in
     let room : ltb (length a.second.now) (8 * (a.best.told.gates + 1)) ≡ false = le-ltb _ _ (rw c.size_of-else-first-size_of.ensures at c.if-second-size_of.false) in
-    step_drawable a.card.bytes.now a.second.now a.tables.now a.card.head a.card.read c.requires.ready.0 a.best.told a.best.step c.requires.step.0 c.requires.step.1 room
+    step_drawable a.card.bytes.now a.second.now _ _ a.card.head a.card.read c.requires.ready.0 a.best.told a.best.step c.requires.step.0 c.requires.step.1 room
 
 pub returns : goal.returns
 returns c card e =

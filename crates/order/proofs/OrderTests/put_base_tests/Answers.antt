@@ -1,7 +1,8 @@
-use Rattle.std.proofs.Common.{ap, arith}
+use Rattle.std.proofs.Common.{◌-◌, ap, arith}
 use Rattle.comparison.specs.Digits.{unless_lowest}
 use Rattle.writer.proofs.Writing.{same_writes}
 use Rattle.powers.proofs.Modulus.{is_modulus}
+use Rattle.powers.proofs.Powers.{place_within}
 use Rattle.order.proofs.Digit.{flip_is, tests_length, tests_wrote}
 use Rattle.order.proofs.OrderTests.put_base_tests.Goals as goal
 
@@ -16,6 +17,11 @@ put_terms-less-requires c =
     let a = c.args in
     let m = a.self.m in
     omega (arith, tests_length m.p a.j a.k (is_modulus m), c)
+
+pub power_at-top-requires : goal.power_at-top-requires
+power_at-top-requires c =
+    let s = c.args.self in
+    omega (arith, s.m, s.prepared.long, place_within s.m.p (s.m.p - 1) (omega arith), c)
 
 pub returns-clause-wrote : goal.returns-clause-wrote
 returns-clause-wrote c =
