@@ -1,7 +1,7 @@
 -- A card that was read: the card that it is, its conditions and their slots, and that record number k is read as the condition of
 -- that number.
 -- Assumes nothing.
-use Rattle.std.proofs.Common.{◌≡◌, refl, sym, ap, ap₂, subst, ◌∙◌, List, [], ◌∷◌, ◌++◌, ℕ, zero, suc, ◌+◌, ◌*◌, ◌≤◌, ◌<◌, arith, zero-add, eqb-true, length, get_or, take, drop, take-append-drop, drop-drop, take-add, get_or-drop}
+use Rattle.std.proofs.Common.{◌≡◌, refl, sym, ap, ap₂, subst, ◌∙◌, List, [], ◌∷◌, ◌++◌, ℕ, zero, suc, ◌+◌, ◌*◌, ◌≤◌, ◌<◌, arith, zero-add, eqb-true, length, get_or, take, drop, take-append-drop, drop-drop, take-add, get_or-drop, length-drop}
 use Rattle.answer.specs.Outcome.{accepted, numbered}
 use Rattle.answer.proofs.Outcome.{answered, accepted_same}
 use Rattle.field.specs.Sum.{total}
@@ -10,8 +10,9 @@ use Rattle.digits.specs.Number.{most_digits}
 use Rattle.circuit.specs.Bytes.{byte}
 use Rattle.circuit.specs.Every.{Every}
 use Rattle.circuit.proofs.Every.{every_map, every_drop}
+use Rattle.circuit.proofs.Records.{lent_from, lent_all}
 use Rattle.comparison.specs.Condition.{Condition, HasSlots}
-use Rattle.comparison.specs.Relation.{Relation, relations}
+use Rattle.comparison.specs.Relation.{Relation, relation_number, relations}
 use Rattle.comparison.proofs.Relations.{relation_back}
 use Rattle.query.specs.Card.{Card, most_conditions, slots_of}
 use Rattle.query.specs.Form.{head_size, Form, Plain, Scored, Shared, record_size, takes_next}
@@ -201,6 +202,16 @@ module _ (form : Form) (p slot : ℕ) (bytes : List ℕ) (c : Condition) (long :
       ap₂ (λ (q : Relation) (n : ℕ). condition_with q n r.left r.right r.weight) relation count
       ∙ ap₂ (λ (a b : ℕ). condition_with c.relation c.digits a b r.weight) (left ∙ sym left_told) (right ∙ sym (tail_right form p slot c kept))
       ∙ ap (condition_with c.relation c.digits c.left c.right) heavy
+
+-- the same of a record that stands at a place, by the number of its relation
+pub is_condition_at : (form : Form) (p slot at : ℕ) (bytes : List ℕ) (c : Condition) → at + record_size form ≤ length bytes
+    → read_condition form p slot (lent_from bytes at) ≡ accepted c → (r : Record) → relation_number (relation_is r.relation) ≡ byte bytes (at + 2)
+    → r.digits ≡ byte bytes (at + 3) → r.left ≡ left_in form slot (drop at bytes) → r.right ≡ slot → r.weight ≡ weight_in form (drop at bytes)
+    → record_is r ≡ c
+is_condition_at form p slot at bytes c l e r number digits left right weight =
+    is_condition form p slot (drop at bytes) c (rw length-drop (omega arith)) (ap (read_condition form p slot) (sym (lent_all bytes at)) ∙ e) r
+    (sym (relation_back (relation_is r.relation)) ∙ ap (λ (n : ℕ). numbered 8 n relations) (number ∙ sym (get_or-drop at bytes 2 0)))
+    (digits ∙ sym (get_or-drop at bytes 3 0)) left right weight
 
 -- the weight of a condition is that of its number
 pub weight_is : (cs : List Condition) (k : ℕ) (c : Condition) (w : ℕ) → drop k cs ≡ c ∷ drop (k + 1) cs → c.weight ≡ w → IsWeight cs k w

@@ -5,7 +5,7 @@ ghost use Rattle.records.specs.Head.{slots_is};
 ghost use Rattle.card.specs.Conditions.{ReadAs, conditions_of, Taken, IsRecord, IsWeight};
 ghost use Rattle.card.specs.Parts.{form_is, records_from, head_is, slots_said};
 
-use crate::{CardHead, Form, HEAD, Record};
+use crate::{CardHead, HEAD, Record};
 use records::SlotCounts;
 use relations::Relation;
 
@@ -82,11 +82,7 @@ impl<'a> Card<'a> {
     pub fn slot_counts(self) -> SlotCounts
         ensures { slots_is result ≡ slots_said (head_is self.entry.head) }
     {
-        let head = self.head;
-        match head.form {
-            Form::Plain | Form::Scored => SlotCounts::Both(head.slots),
-            Form::Shared => SlotCounts::Each(head.left, head.slots),
-        }
+        self.head.slot_counts()
     }
 }
 

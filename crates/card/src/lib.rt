@@ -7,13 +7,14 @@ ghost use Rattle.circuit.specs.Bytes.{wrong_mark};
 ghost use Rattle.query.specs.Card.{most_conditions, wrong_total};
 ghost use Rattle.query.specs.Form.{head_size, Scored, Shared, question_of, record_mark_of, record_size, form_of, read_tail};
 ghost use Rattle.query.specs.Reading.{read_counted, read_condition, within_limits};
+ghost use Rattle.records.specs.Head.{slots_is};
 ghost use Rattle.records.specs.Marks.{mark_of};
 ghost use Rattle.relations.specs.Relations.{relation_is};
 ghost use Rattle.card.specs.Accepted.{card_answer};
-ghost use Rattle.card.specs.Parts.{form_is, question_is, record_is, weight_in, left_in, read_sums, head_is, read_summary, read_formed_summary};
+ghost use Rattle.card.specs.Parts.{form_is, question_is, record_is, weight_in, left_in, read_sums, head_is, slots_said, read_summary, read_formed_summary};
 
 use answer::Refusal;
-use records::{LEAST_WEIGHT, MOST_WEIGHT};
+use records::{LEAST_WEIGHT, MOST_WEIGHT, SlotCounts};
 use relations::Relation;
 
 mod accepted;
@@ -144,6 +145,18 @@ impl Form {
         match self {
             Form::Plain | Form::Shared => Question::YesOrNo,
             Form::Scored => Question::Score,
+        }
+    }
+}
+
+impl CardHead {
+    // The slot counts in the head of the card's table. They go by what the head says, whatever bytes it was read from.
+    pub fn slot_counts(self) -> SlotCounts
+        ensures { slots_is result ≡ slots_said (head_is self) }
+    {
+        match self.form {
+            Form::Plain | Form::Scored => SlotCounts::Both(self.slots),
+            Form::Shared => SlotCounts::Each(self.left, self.slots),
         }
     }
 }

@@ -2,7 +2,7 @@
 // of the lent table.
 #![tactic(auto)]
 
-ghost use Rattle.std.specs.Prelude.{◌≡◌, true};
+ghost use Rattle.std.specs.Prelude.{◌≡◌, true, IfErr};
 ghost use Rattle.answer.specs.Outcome.{accepted};
 ghost use Rattle.answer.specs.Report.{report_of, report_answer};
 ghost use Rattle.answer.specs.Settled.{settled_answer};
@@ -26,6 +26,7 @@ use writer::{Slots, Writer, Written};
 pub fn begin(state: &mut BuildState, prime: u8, weight: u8, table: &mut [u8]) -> Result<(), Refusal>
     ensures answers { settled_answer result ≡ (beginning (state_is state.old) prime weight table.old).answer }
     ensures next { state_is state.new ≡ (beginning (state_is state.old) prime weight table.old).state }
+    ensures kept { IfErr result (λ why. state.new ≡ state.old) }
     ensures leaves { table.new ≡ (beginning (state_is state.old) prime weight table.old).lent }
 {
     if !arithmetic::is_listed(prime) {
@@ -71,6 +72,7 @@ fn write_tree(state: &BuildState, table: &mut [u8]) -> Report
 pub fn finish(state: &mut BuildState, table: &mut [u8]) -> Result<Report, Refusal>
     ensures answers { report_answer result ≡ (finishing (state_is state.old) table.old).answer }
     ensures next { state_is state.new ≡ (finishing (state_is state.old) table.old).state }
+    ensures kept { IfErr result (λ why. state.new ≡ state.old) }
     ensures leaves { table.new ≡ (finishing (state_is state.old) table.old).lent }
 {
     if state.is_closed() {
@@ -148,6 +150,7 @@ fn add_condition(
     requires { Takes (state_is state.old) state.old.count digits }
     ensures answers { settled_answer result ≡ (adding_condition (state_is state.old) table.old (condition_next (state_is state.old) (relation_is relation) digits)).answer }
     ensures next { state_is state.new ≡ (adding_condition (state_is state.old) table.old (condition_next (state_is state.old) (relation_is relation) digits)).state }
+    ensures kept { IfErr result (λ why. state.new ≡ state.old) }
     ensures leaves { table.new ≡ (adding_condition (state_is state.old) table.old (condition_next (state_is state.old) (relation_is relation) digits)).lent }
 {
     if digits::MOST_DIGITS < usize::from(state.slots) + usize::from(digits) {
@@ -165,6 +168,7 @@ fn add_condition(
 pub fn add(state: &mut BuildState, bytes: &[u8], table: &mut [u8]) -> Result<(), Refusal>
     ensures answers { settled_answer result ≡ (adding (state_is state.old) bytes.now table.old).answer }
     ensures next { state_is state.new ≡ (adding (state_is state.old) bytes.now table.old).state }
+    ensures kept { IfErr result (λ why. state.new ≡ state.old) }
     ensures leaves { table.new ≡ (adding (state_is state.old) bytes.now table.old).lent }
 {
     if state.is_closed() {

@@ -28,4 +28,4 @@ returns c =
     let same = add_read state bytes table is_open few _ c.if-bytes-ne-PLAIN_SIZE.false took ∙ ap (adding_condition state table) (read_next state bytes _ took).0 in
     let e = c.add_condition.ensures in
     let told = same_step same (record { answers = e.answers; next = e.next; leaves = e.leaves }) in
-    record { answers = told.answers; next = told.next; leaves = told.leaves }
+    record { answers = told.answers; next = told.next; kept = e.kept; leaves = told.leaves }

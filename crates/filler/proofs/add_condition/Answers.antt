@@ -1,4 +1,4 @@
-use Rattle.std.proofs.Common.{◌+◌, ◌≤◌, arith}
+use Rattle.std.proofs.Common.{◌+◌, ◌≤◌, refl, arith}
 use Rattle.digits.specs.Number.{most_digits}
 use Rattle.comparison.specs.Condition.{Condition}
 use Rattle.filling.specs.Filling.{added_to, adding_condition}
@@ -25,7 +25,7 @@ returns-then-table-from c =
     let told = refused_step state 11 table (adding_condition state table condition)
     (add_short state condition c.condition_size-size.result table c.requires.is_open c.requires.digits.0 sized fits
     (omega (arith, c.if-table-from.true, c.from-3.ensures, c.from-4.ensures))) in
-    record { answers = told.answers; next = told.next; leaves = told.leaves }
+    record { answers = told.answers; next = told.next; kept = refl; leaves = told.leaves }
 
 pub returns : goal.returns
 returns c =
@@ -42,4 +42,4 @@ returns c =
     let e = c.write_condition.ensures in
     let told = settled_step _ (added_to state condition) _ (added_bytes state condition table) _ (adding_condition state table condition)
     (add_settled addable) e.next e.leaves in
-    record { answers = told.answers; next = told.next; leaves = told.leaves }
+    record { answers = told.answers; next = told.next; kept = tt; leaves = told.leaves }

@@ -1,4 +1,4 @@
-use Rattle.std.proofs.Common.{◌≡◌, false, sym, ◌∙◌, arith}
+use Rattle.std.proofs.Common.{◌≡◌, false, refl, sym, ◌∙◌, arith}
 use Rattle.filling.specs.Filling.{finishing}
 use Rattle.filling.specs.State.{BuildState, is_closed}
 use Rattle.state.specs.State.{state_is}
@@ -16,4 +16,4 @@ returns-then-table-from c =
     let told = refused_step state 11 table (finishing state table)
     (finish_short state s.count table is_open (outputs_open s is_open) (omega (arith, c.if-is_empty.false, c.from-count.ensures))
     (omega (arith, c.if-table-from.true, c.from-count.ensures, c.from.ensures))) in
-    record { answers = told.answers; next = told.next; leaves = told.leaves }
+    record { answers = told.answers; next = told.next; kept = refl; leaves = told.leaves }
