@@ -68,10 +68,16 @@ impl OrderTests<'_> {
         ensures equal { 0 < j → node_is result.equal ≡ equal_node (base_tests self.entry.m.p) k }
     {
         let z = k + 2;
-        powers::put_powers(out, z, self.m);
-        let less = self.put_terms(out, z);
+        // A writer of its own, so that the pen need not be stored and read again at each of the many gates.
+        let mut own = Writer {
+            table: &mut *out.table,
+            pen: out.pen,
+        };
+        powers::put_powers(&mut own, z, self.m);
+        let less = self.put_terms(&mut own, z);
         let top = self.tables.power_at(self.m.p, z, self.m.p - 1);
-        let equal = put_equal(out, j, top);
+        let equal = put_equal(&mut own, j, top);
+        out.pen = own.pen;
         Tests { less, equal }
     }
 

@@ -1,4 +1,4 @@
-use Rattle.std.proofs.Common.{◌-◌, ap, arith}
+use Rattle.std.proofs.Common.{◌-◌, refl, sym, ap, ◌∙◌, length, arith}
 use Rattle.comparison.specs.Digits.{unless_lowest}
 use Rattle.writer.proofs.Writing.{same_writes}
 use Rattle.powers.proofs.Modulus.{is_modulus}
@@ -29,4 +29,11 @@ returns-clause-wrote c =
     let p = a.self.m.p in
     let q = c.put_powers.ensures in
     let flip = ap (unless_lowest a.j) (flip_is p a.k c.power_at-top.ensures.0) in
-    tests_wrote p a.j a.k c.requires.next_value q.wrote q.moves.0 c.put_terms-less.ensures.wrote (same_writes flip c.put_equal-equal.ensures.wrote)
+    let own = tests_wrote p a.j a.k c.requires.next_value q.wrote q.moves.0 c.put_terms-less.ensures.wrote (same_writes flip c.put_equal-equal.ensures.wrote) in
+    let back = c.out-2-1.given.1 (sym own.lent) in
+    record {
+      wrote = record { bytes = back ∙ own.wrote.bytes; number = own.wrote.number; products = own.wrote.products; squares = own.wrote.squares };
+      moved = own.moved;
+      size = ap length back ∙ own.size;
+      lent = refl;
+    }
