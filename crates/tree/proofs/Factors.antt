@@ -104,10 +104,24 @@ same_least {list = list} {i = i} {place = place} h more = record {
 
 -- ---- one factor taken out
 
--- the others, after the one at a place has gone to the end
-pub others_first : (nodes : List Node) (place : ℕ) (x : Node) → place < length nodes
-    → take (length nodes - 1) (remove nodes place ++ (x ∷ [])) ≡ remove nodes place
-others_first nodes place x l = take_at (remove nodes place) (x ∷ []) _ (omega (arith, length-remove nodes place l))
+gap_after : (nodes : List Node) (none : Node) (k : ℕ) → suc k < length nodes
+    → remove (set nodes k (get_or nodes (suc k) none)) (suc k) ≡ remove nodes k
+gap_after [] none k l = absurd (omega arith)
+gap_after (x ∷ []) none k l = absurd (omega arith)
+gap_after (x ∷ y ∷ nodes) none zero l = refl
+gap_after (x ∷ y ∷ nodes) none (suc k) l = ap (λ (rest : List Node). x ∷ rest) (gap_after (y ∷ nodes) none k (omega arith))
+
+-- the one after a gap moves down by one: the gap is one further on
+pub gap_on : (nodes : List Node) (none : Node) (k i : ℕ) → i ≡ suc k → i < length nodes
+    → remove (set nodes k (get_or nodes i none)) i ≡ remove nodes k
+gap_on nodes none k i e l = rw e (gap_after nodes none k (omega arith))
+
+-- a gap at the end
+pub gap_last : (nodes : List Node) (n : ℕ) → length nodes ≡ suc n → remove nodes n ≡ take n nodes
+gap_last [] n e = absurd (omega arith)
+gap_last (x ∷ []) zero e = refl
+gap_last (x ∷ y ∷ nodes) zero e = absurd (omega arith)
+gap_last (x ∷ nodes) (suc n) e = ap (λ (rest : List Node). x ∷ rest) (gap_last nodes n (omega arith))
 
 -- ---- the first factors
 

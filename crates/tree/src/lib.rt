@@ -1,6 +1,7 @@
 // Writing product trees.
 #![tactic(auto)]
 
+ghost use Rattle.std.specs.List.{remove};
 ghost use Rattle.std.specs.Prelude.{◌≡◌, ◌-◌, ◌≤◌, ◌<◌, length, map, take};
 ghost use Rattle.circuit.specs.ProductTree.{choose, product_tree};
 ghost use Rattle.tree.specs.Factors.{depths, FirstLeast, Shallow};
@@ -24,7 +25,17 @@ fn first_least(nodes: &[Node]) -> usize
     least
 }
 
-// Takes the factor of least depth out: it goes to the end, and the others stay in their order.
+// Closes the gap at a place: the later ones move down by one.
+fn close_gap(nodes: &mut [Node], place: usize)
+    requires { place < length nodes.old }
+    ensures { take (length nodes.old - 1) nodes.new ≡ remove nodes.old place }
+{
+    for i in place + 1..nodes.len() {
+        nodes[i - 1] = nodes[i];
+    }
+}
+
+// Takes the factor of least depth out: the others close up, in their order.
 fn take_least(nodes: &mut [Node]) -> Node
     requires { 1 ≤ length nodes.old }
     ensures chosen { node_is result ≡ (choose (map node_is nodes.old)).chosen }
@@ -32,7 +43,7 @@ fn take_least(nodes: &mut [Node]) -> Node
 {
     let place = first_least(nodes);
     let node = nodes[place];
-    nodes[place..].rotate_left(1);
+    close_gap(nodes, place);
     node
 }
 
