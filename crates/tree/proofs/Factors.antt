@@ -2,8 +2,7 @@
 -- Assumes nothing.
 use Rattle.std.specs.List.{remove}
 use Rattle.std.proofs.lemmas.Bool.{le-leb, lt-leb}
-use Rattle.std.proofs.lemmas.List.{length-map, map-append, get_or-map, take_at, take-append-le, length-take-le, drop-map, get_or-take}
-use Rattle.std.proofs.lemmas.List.Edits.{length-remove}
+use Rattle.std.proofs.lemmas.List.{length-map, map-append, get_or-map, take-append-le, length-take-le, drop-map, get_or-take}
 use Rattle.std.proofs.Common.{◌≡◌, refl, sym, ap, ◌∙◌, List, [], ◌∷◌, ◌++◌, map, ℕ, zero, suc, ◌+◌, ◌-◌, ◌≤◌, ◌<◌, Bool, true, false, length, get_or, take, drop, set, length-append, take-suc-set, add-one, drop-cons, arith}
 use Rattle.std.proofs.Math.Decide.{dec_lt}
 use Rattle.circuit.specs.Every.{Every}

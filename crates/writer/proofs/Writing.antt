@@ -1,10 +1,8 @@
 -- Laws of writing: nothing is written, one gate is, and what is written one after the other. Bytes laid over a table one part after the other
 -- are the whole laid over it, and counts add up.
 -- Assumes nothing.
-use Rattle.std.proofs.lemmas.List.{drop-drop}
 use Rattle.std.proofs.lemmas.List.Edits.{sets, sets-eq}
-use Rattle.std.proofs.Common.{◌≡◌, refl, sym, ap, ◌∙◌, subst, List, [], ◌∷◌, ◌++◌, append_assoc, ℕ, ◌+◌, ◌-◌, ◌*◌, ◌≤◌, length, take, drop, arith, length-append}
-use borrow.Rule.Slice.PartMut.{put_mid}
+use Rattle.std.proofs.Common.{◌≡◌, refl, sym, ap, ◌∙◌, subst, List, [], ◌∷◌, ◌++◌, ℕ, ◌+◌, ◌*◌, ◌≤◌, length, drop, arith, length-append}
 use Rattle.answer.proofs.Lent.{sets_append}
 use Rattle.circuit.specs.Count.{count, is_product, is_square}
 use Rattle.circuit.specs.Gate.{Gate, gate_bytes}
@@ -25,16 +23,6 @@ laid_append table k gs hs =
     ap (sets table (8 * (k + 1))) (bytes_append gs hs)
     ∙ sets_append table (8 * (k + 1)) (gates_bytes gs) (gates_bytes hs)
     ∙ ap (λ (i : ℕ). sets (sets table (8 * (k + 1)) (gates_bytes gs)) i (gates_bytes hs)) e
-
--- what a copy to a part of a table leaves: the bytes, laid over it from a place on
-pub copied : (table bytes : List ℕ) (at : ℕ) {part : List ℕ} → part ≡ bytes → length bytes ≡ 8 → at + 8 ≤ length table
-    → put_mid at (at + 8 - at) table part ≡ sets table at bytes
-copied table bytes at same long room =
-    let eight : at + 8 - at ≡ length bytes = omega arith in
-    rw (same, eight)
-    (ap (λ (rest : List ℕ). take at table ++ (bytes ++ rest)) (drop-drop (length bytes) at table)
-    ∙ sym (append_assoc (take at table) bytes _)
-    ∙ sym (sets-eq bytes table at (omega arith)))
 
 -- the head, then all gates: the table's bytes, and the later ones as they were
 pub whole : (table : Table) (lent : List ℕ) → 8 * (length table.gates + 1) ≤ length lent

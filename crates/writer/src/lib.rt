@@ -75,18 +75,19 @@ pub enum Gate {
 }
 
 impl Gate {
-    // The eight bytes of its record.
-    fn record(self) -> [u8; RECORD]
-        ensures { result ≡ gate_bytes (gate_is self) }
+    // Writes its record as that of gate number k.
+    fn record(self, table: &mut [u8], k: u16)
+        requires { 8 * (k + 2) ≤ length table.old }
+        ensures { table.new ≡ sets table.old (8 * (k + 1)) (gate_bytes (gate_is self)) }
     {
         match self {
-            Gate::Left(slot) => record_of(Kind::Left, slot, 0),
-            Gate::Right(slot) => record_of(Kind::Right, slot, 0),
-            Gate::Add(a, b) => record_of(Kind::Add, a, b),
-            Gate::Sub(a, b) => record_of(Kind::Sub, a, b),
-            Gate::Scale(a, b) => record_of(Kind::Scale, a, b),
-            Gate::Flip(a) => record_of(Kind::Flip, a, 0),
-            Gate::Mul(a, b) => record_of(Kind::Mul, a, b),
+            Gate::Left(slot) => put_record(table, k, Kind::Left, slot, 0),
+            Gate::Right(slot) => put_record(table, k, Kind::Right, slot, 0),
+            Gate::Add(a, b) => put_record(table, k, Kind::Add, a, b),
+            Gate::Sub(a, b) => put_record(table, k, Kind::Sub, a, b),
+            Gate::Scale(a, b) => put_record(table, k, Kind::Scale, a, b),
+            Gate::Flip(a) => put_record(table, k, Kind::Flip, a, 0),
+            Gate::Mul(a, b) => put_record(table, k, Kind::Mul, a, b),
         }
     }
 }
@@ -123,14 +124,23 @@ impl Pen {
     }
 }
 
-// The record of a gate of a kind over a and b.
-fn record_of(kind: Kind, a: u16, b: u16) -> [u8; RECORD]
-    ensures { result ≡ record_bytes (row (kind_number kind) a b) }
+// Writes the record of gate number k, of a kind over a and b. Byte by byte, as the library's copy asks each time whether the two overlap.
+fn put_record(table: &mut [u8], k: u16, kind: Kind, a: u16, b: u16)
+    requires { 8 * (k + 2) ≤ length table.old }
+    ensures { table.new ≡ sets table.old (8 * (k + 1)) (record_bytes (row (kind_number kind) a b)) }
 {
     let mark = GATE_MARK;
+    let at = RECORD * (usize::from(k) + 1);
     let a = a.to_le_bytes();
     let b = b.to_le_bytes();
-    [mark[0], mark[1], u8::from(kind), 0, a[0], a[1], b[0], b[1]]
+    table[at] = mark[0];
+    table[at + 1] = mark[1];
+    table[at + 2] = u8::from(kind);
+    table[at + 3] = 0;
+    table[at + 4] = a[0];
+    table[at + 5] = a[1];
+    table[at + 6] = b[0];
+    table[at + 7] = b[1];
 }
 
 // Writes the head of a table. Where one count serves both sides, byte 5 is spare.
@@ -154,9 +164,7 @@ impl<'a> Writer<'a> {
         requires { HasRoom self.old 1 }
         ensures { Writes self.old (gate_is gate ∷ []) self.new }
     {
-        let at = RECORD * (usize::from(self.pen.next) + 1);
-        let table = &mut *self.table;
-        table[at..at + RECORD].copy_from_slice(&gate.record());
+        gate.record(&mut *self.table, self.pen.next);
         self.pen = self.pen.after(gate);
     }
 

@@ -1,5 +1,5 @@
 use Rattle.std.specs.List.{remove}
-use Rattle.std.proofs.Common.{◌≡◌, sym, ap, ◌∙◌, ℕ, suc, ◌+◌, ◌-◌, length, take, arith}
+use Rattle.std.proofs.Common.{◌≡◌, sym, ap, ◌∙◌, ◌+◌, ◌-◌, length, arith}
 use Rattle.writer.specs.declared.Node.{Node}
 use Rattle.tree.proofs.Factors.{gap_on, gap_last}
 use Rattle.tree.proofs.close_gap.Goals as goal
