@@ -66,6 +66,14 @@ impl OrderTables {
         prepare(m, &mut self.constants, &mut self.depths);
     }
 
+    // The power z^i of an odd modulus, with its depth, which these arrays have room for.
+    pub fn power_at(&self, m: Modulus, z: u16, i: u16) -> Node
+        requires { (1 ≤ i) × (i ≤ m.p - 1) × (z ≤ most_gates) }
+        ensures { (result.gate ≡ z + power_gate m.p 0 i) × (result.depth ≡ get_or self.now.depths (power_gate m.p 0 i) 0) }
+    {
+        self.lists().power_at(m.p, z, i)
+    }
+
     // The two as lists.
     pub fn lists(&self) -> OrderLists<'_>
         ensures { (result.constants.now ≡ self.now.constants) × (result.depths.now ≡ self.now.depths) }
